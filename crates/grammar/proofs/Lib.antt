@@ -1,0 +1,6 @@
+pub mod Worked
+pub mod ReadingLaws
+pub mod WordLaws
+pub mod RowLaws
+pub mod ActionLaws
+pub mod ProgramLaws

@@ -1,0 +1,106 @@
+use mathlib.Core.Bool.{Bool, true, false, cond, _&&_, not}
+use mathlib.Core.List.{List, [], _∷_, _++_}
+use Prim.Native.Nat.{ℕ, zero, suc, _-_, _^_}
+use lib.Dec.{eqb, ltb, leb}
+use lib.Bits.{bitAnd}
+use lib.IntN.{ℤ, pos, negsuc}
+use lib.Signed.{leZ}
+use lib.ListN.{length, replicate}
+use Rattle.words.specs.Words.{bits, payload, kindOf, signed, literalsOf, VAR, ROW, TERM, INIT, PRED, ACTION, SET, SETS, END}
+use Rattle.words.specs.declared.Refusal.the-variants.{Word}
+use Rattle.words.specs.declared.Literals.{Literals}
+use Rattle.rows.specs.declared.Row.{Row}
+use Rattle.rows.specs.declared.Range.{Range}
+use Rattle.grammar.specs.Reading.{Read, Reader, got, refused, pure, _>>=_, one, always, begins, optional, times, many}
+use Rattle.grammar.specs.Programs.{Assignment, Action, Program}
+
+-- VAR: low end bits 27..14, high end 13..0
+abbrev pub rangeOf : ℕ → Range
+rangeOf w = record { low = signed 14 (bits 27 14 w); high = signed 14 (bits 13 0 w) }
+
+abbrev pub range : Bool → Reader Range
+range room = do
+    w ← one VAR always (λ w. room) (λ w. leZ (rangeOf w .low) (rangeOf w .high))
+    pure (rangeOf w)
+
+-- TERM: variable 27..24, coefficient 15..0, from -1,000 to 1,000 and not 0
+abbrev pub coefficient : ℕ → ℤ
+coefficient w = signed 16 (bits 15 0 w)
+
+abbrev pub coefficientAllowed : ℕ → Bool
+coefficientAllowed w = not (eqb (bits 15 0 w) 0) && leZ (negsuc 999) (coefficient w) && leZ (coefficient w) (pos 1000)
+
+abbrev pub term : (ℕ → Bool) → Reader ℕ
+term allowed = one TERM (λ w. eqb (bits 23 16 w) 0) always allowed
+
+abbrev pub beginsTerm : ℕ → List ℕ → Bool
+beginsTerm v [] = false
+beginsTerm v (w ∷ ws) = eqb (kindOf w) TERM && eqb (bits 27 24 w) v
+
+-- the coefficient of variable v, zero where its TERM is absent
+abbrev pub coef : ℕ → Reader ℤ
+coef v = optional (beginsTerm v) (term coefficientAllowed >>= λ w. pure (coefficient w)) (pos 0)
+
+-- the coefficients of n variables from v on. A TERM after them does not rise, or its variable is unknown
+unfoldable pub coefs : ℕ → ℕ → Reader (List ℤ)
+coefs zero v = optional (begins TERM) (term (λ w. false) >>= λ w. pure []) []
+coefs (suc n) v = do
+    c ← coef v
+    cs ← coefs n (suc v)
+    pure (c ∷ cs)
+
+-- ROW: constant, from -1,000,000 to 1,000,000
+abbrev pub constantOf : ℕ → ℤ
+constantOf w = signed 28 (payload w)
+
+unfoldable pub row : ℕ → Reader Row
+row vars = do
+    w ← one ROW always always (λ w. leZ (negsuc 999999) (constantOf w) && leZ (constantOf w) (pos 1000000))
+    cs ← coefs vars 0
+    pure (record { coef = cs ++ replicate (8 - vars) (pos 0); constant = constantOf w })
+
+-- INIT or PRED, and as many rows as it says
+abbrev pub rows : ℕ → ℕ → ℕ → Reader (List Row)
+rows kind most vars = do
+    w ← one kind always (λ w. leb (payload w) most) always
+    times (payload w) (row vars)
+
+-- n assignments, to variables from v on
+unfoldable pub sets : ℕ → ℕ → ℕ → Reader (List Assignment)
+sets vars zero v = pure []
+sets vars (suc n) v = do
+    w ← one SET always always (λ w. leb v (payload w) && ltb (payload w) vars)
+    r ← row vars
+    ss ← sets vars n (suc (payload w))
+    pure (record { variable = payload w; row = r } ∷ ss)
+
+-- ACTION: guard rows 7..4, assignments 3..0, each 0 to 8
+unfoldable pub action : ℕ → Bool → Reader Action
+action vars room = do
+    w ← one ACTION (λ w. eqb (bits 27 8 w) 0) (λ w. room && leb (bits 7 4 w) 8 && leb (bits 3 0 w) 8) always
+    gs ← times (bits 7 4 w) (row vars)
+    ss ← sets vars (bits 3 0 w) 0
+    pure (record { guards = gs; sets = ss })
+
+-- SETS: known-false predicates 27..14, known-true 13..0; each in the program, and none in both
+abbrev pub combination : ℕ → Bool → Reader Literals
+combination preds room = do
+    w ← one SETS always (λ w. room) (λ w. ltb (bits 27 14 w) (2 ^ preds) && ltb (bits 13 0 w) (2 ^ preds) && eqb (bitAnd (bits 27 14 w) (bits 13 0 w)) 0)
+    pure (literalsOf w)
+
+-- END, and nothing after it
+abbrev pub nothing : Reader ℕ
+nothing [] i = got 0 [] i
+nothing (w ∷ ws) i = refused (Word i)
+
+unfoldable pub program : Reader Program
+program = do
+    r ← range true
+    rs ← many VAR range 7
+    start ← rows INIT 8 (suc (length rs))
+    predicates ← rows PRED 14 (suc (length rs))
+    actions ← many ACTION (action (suc (length rs))) 16
+    forbidden ← many SETS (combination (length predicates)) 8
+    w ← one END (λ w. eqb (payload w) 0) always always
+    e ← nothing
+    pure (record { ranges = r ∷ rs; start = start; predicates = predicates; actions = actions; forbidden = forbidden })

@@ -1,0 +1,61 @@
+use mathlib.Core.Path.{_≡_}
+use mathlib.Core.List.{List, [], _∷_}
+use Prim.Native.Nat.{ℕ, suc, _-_, _^_, _≤_, _<_}
+use lib.Bits.{bitAnd}
+use lib.IntN.{ℤ, pos, negsuc}
+use lib.Signed.{_≤ℤ_}
+use lib.ListN.{length, drop, replicate}
+use Rattle.words.specs.Words.{bits}
+use Rattle.words.specs.declared.Literals.{Literals}
+use Rattle.rows.specs.declared.Row.{Row}
+use Rattle.rows.specs.declared.Range.{Range}
+use Rattle.grammar.specs.Programs.{Assignment, Action, Program}
+
+abbrev pub Between : ℤ → ℤ → ℤ → Type 0
+Between lo hi z = (lo ≤ℤ z) × (z ≤ℤ hi)
+
+module _ {A : Type 0} where
+  abbrev pub Each : (A → Type 0) → List A → Type 0
+  Each P [] = Unit {0}
+  Each P (x ∷ xs) = P x × Each P xs
+
+module _ {A : Type 0} where
+  -- at most n of them, each good
+  pub record Few (n : ℕ) (P : A → Type 0) (xs : List A) : Type 0 where
+    pub few : length xs ≤ n
+    pub each : Each P xs
+
+pub record RangeOk (r : Range) : Type 0 where
+  pub low : Between (negsuc 8191) (pos 8191) (r .low)
+  pub high : Between (negsuc 8191) (pos 8191) (r .high)
+  pub order : r .low ≤ℤ r .high
+
+pub record RowOk (vars : ℕ) (r : Row) : Type 0 where
+  pub eight : length (r .coef) ≡ 8
+  pub small : Each (Between (negsuc 999) (pos 1000)) (r .coef)
+  pub absent : drop vars (r .coef) ≡ replicate (8 - vars) (pos 0)
+  pub constant : Between (negsuc 999999) (pos 1000000) (r .constant)
+
+-- assignments to variables that rise from v on
+abbrev pub Rising : ℕ → ℕ → List Assignment → Type 0
+Rising vars v [] = Unit {0}
+Rising vars v (s ∷ ss) = (v ≤ s .variable) × (s .variable < vars) × RowOk vars (s .row) × Rising vars (suc (s .variable)) ss
+
+pub record ActionOk (vars : ℕ) (a : Action) : Type 0 where
+  pub guards : Few 8 (RowOk vars) (a .guards)
+  pub few : length (a .sets) ≤ 8
+  pub rising : Rising vars 0 (a .sets)
+
+pub record LiteralsOk (preds : ℕ) (l : Literals) : Type 0 where
+  pub payload : l .0 < 2 ^ 28
+  pub false-known : bits 27 14 (l .0) < 2 ^ preds
+  pub true-known : bits 13 0 (l .0) < 2 ^ preds
+  pub apart : bitAnd (bits 27 14 (l .0)) (bits 13 0 (l .0)) ≡ 0
+
+pub record WellFormed (p : Program) : Type 0 where
+  pub some : 1 ≤ length (p .ranges)
+  pub ranges : Few 8 RangeOk (p .ranges)
+  pub start : Few 8 (RowOk (length (p .ranges))) (p .start)
+  pub predicates : Few 14 (RowOk (length (p .ranges))) (p .predicates)
+  pub actions : Few 16 (ActionOk (length (p .ranges))) (p .actions)
+  pub forbidden : Few 8 (LiteralsOk (length (p .predicates))) (p .forbidden)

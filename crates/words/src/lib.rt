@@ -1,0 +1,121 @@
+// Words of 32 bits, their fields, and the refusals.
+ghost use mathlib.Core.Path.{_≡_};
+ghost use mathlib.Core.Bool.{_&&_};
+ghost use Prim.Native.Nat.{_+_, _*_, _<_, _≤_, _^_, _/_, _%_};
+ghost use lib.Dec.{eqb};
+ghost use Rattle.words.specs.Words.{bits, signed, signedBy, kindOf, payload, literalsOf, noLiterals};
+ghost use Rattle.words.specs.Refusals.{number, value};
+
+// The kind of a word, its bits 31 to 28.
+pub struct Kind(pub u32);
+
+impl Kind {
+    pub const VAR: Kind = Kind(1);
+
+    pub const ROW: Kind = Kind(2);
+
+    pub const TERM: Kind = Kind(3);
+
+    pub const INIT: Kind = Kind(4);
+
+    pub const PRED: Kind = Kind(5);
+
+    pub const ACTION: Kind = Kind(6);
+
+    pub const SET: Kind = Kind(7);
+
+    pub const SETS: Kind = Kind(8);
+
+    pub const END: Kind = Kind(15);
+
+    // The kind of a word.
+    pub fn of(word: u32) -> Kind
+        ensures { λ r. ⌜ r .0 ≡ kindOf word ⌝ }
+    {
+        Kind(word / 268435456)
+    }
+
+    pub fn is(self, other: Kind) -> bool
+        ensures { λ r. ⌜ r ≡ eqb (self .0) (other .0) ⌝ }
+    {
+        self.0 == other.0
+    }
+}
+
+// n read in two's complement, where the numbers from `half` on are negative.
+fn signed_by(n: u32, half: u32) -> i64
+    requires { ⌜ (n < half + half) × (half ≤ 2 ^ 27) ⌝ }
+    ensures { λ r. ⌜ r ≡ signedBy half n ⌝ }
+{
+    let x = n as i64;
+    if n < half {
+        x
+    } else {
+        let whole = (half + half) as i64;
+        x - whole
+    }
+}
+
+pub fn variable(w: u32) -> u32
+    ensures { λ r. ⌜ r ≡ bits 27 24 w ⌝ }
+{
+    w / 16777216 % 16
+}
+
+pub fn low16(w: u32) -> u32
+    ensures { λ r. ⌜ r ≡ bits 15 0 w ⌝ }
+{
+    w % 65536
+}
+
+pub fn guards(w: u32) -> u32
+    ensures { λ r. ⌜ r ≡ bits 7 4 w ⌝ }
+{
+    w / 16 % 16
+}
+
+// A set of literals as the payload of SETS: bit p for predicate p known true, bit 14 + p for predicate p known false.
+pub struct Literals(pub u32);
+
+impl Literals {
+    pub const EMPTY: Literals = Literals(0);
+
+    pub fn of(word: u32) -> Literals
+        ensures { λ r. ⌜ r ≡ literalsOf word ⌝ }
+    {
+        Literals(word % 268435456)
+    }
+}
+
+// Why a call refuses, with the number that is returned with the refusal.
+pub enum Refusal {
+    Short(usize),
+    Word(usize),
+    Limit(usize),
+    Value(usize),
+    Lemma(usize),
+    Lemmas(usize),
+    Nodes,
+    Absent(usize),
+    Length(usize),
+    State(usize),
+    Sum(usize),
+}
+
+pub fn number_of(r: Refusal) -> u32
+    ensures { λ n. ⌜ n ≡ number r ⌝ }
+{
+    match r {
+        Refusal::Short(_) => 1,
+        Refusal::Word(_) => 2,
+        Refusal::Limit(_) => 3,
+        Refusal::Value(_) => 4,
+        Refusal::Lemma(_) => 5,
+        Refusal::Lemmas(_) => 6,
+        Refusal::Nodes => 7,
+        Refusal::Absent(_) => 8,
+        Refusal::Length(_) => 9,
+        Refusal::State(_) => 10,
+        Refusal::Sum(_) => 11,
+    }
+}
