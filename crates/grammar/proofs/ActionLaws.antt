@@ -8,6 +8,7 @@ use lib.Dec.{eqb, ltb, leb}
 use lib.Bits.{bitAnd}
 use lib.ListN.{length, length-append}
 use borrow.Author.Tests.{eqb-true, eq-eqb, ltb-true, lt-ltb, leb-true, le-leb}
+use Rattle.integers.specs.Tests.{and-true}
 use Rattle.words.specs.Words.{bits, kindOf, payload, word, literalsOf, TERM, ACTION, SET, SETS}
 use Rattle.words.specs.declared.Literals.{Literals}
 use Rattle.words.proofs.Laws.{kind-word, payload-word, word-split}
@@ -17,7 +18,7 @@ use Rattle.grammar.specs.Programs.{Assignment, Action}
 use Rattle.grammar.specs.Grammar.{row, sets, action, combination}
 use Rattle.grammar.specs.Encoding.{concat, encodeRow, encodeSet, encodeAction, encodeLiterals}
 use Rattle.grammar.specs.WellFormed.{Each, Few, RowOk, Rising, ActionOk, LiteralsOk}
-use Rattle.grammar.proofs.ReadingLaws.{Codec, Taken, retaken, one-taken, bound, joined, one-out, one-in, and-true, times-codec, concat-head}
+use Rattle.grammar.proofs.ReadingLaws.{Codec, Taken, retaken, one-taken, bound, joined, one-out, one-in, times-codec, concat-head}
 use Rattle.grammar.proofs.RowLaws.{row-codec}
 
 -- ---- assignments

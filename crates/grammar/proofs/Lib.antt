@@ -2,5 +2,6 @@ pub mod Worked
 pub mod ReadingLaws
 pub mod WordLaws
 pub mod RowLaws
+pub mod TermLaws
 pub mod ActionLaws
 pub mod ProgramLaws

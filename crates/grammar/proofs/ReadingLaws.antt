@@ -9,6 +9,7 @@ use native.Mathlib.Numerals.{add-one}
 use lib.Dec.{eqb}
 use lib.ListN.{length, length-append}
 use borrow.Author.Tests.{eqb-true, eq-eqb}
+use Rattle.integers.specs.Tests.{and-true}
 use Rattle.words.specs.Words.{kindOf, TERM}
 use Rattle.words.specs.declared.Refusal.{Refusal}
 use Rattle.grammar.specs.Reading.{Read, Reader, got, refused, pure, after, _>>=_, due, one, begins, optional, times, many}
@@ -31,10 +32,6 @@ module _ {A B : Type 0} where
       → ((a : A) (us : List ℕ) (k : ℕ) → m ≡ got a us k → f a us k ≡ got b vs j → R) → R
   bound (got a us k) f h g = g a us k refl h
   bound (refused r) f h g = absurd (not-got h)
-
-pub and-true : (a b : Bool) → (a && b) ≡ true → (a ≡ true) × (b ≡ true)
-and-true true b e = (refl, e)
-and-true false b e = let z : _≡_ {A = ℕ} 0 1 = cc in absurd (omega arith)
 
 -- ---- one word
 pub record OneGot (kind : ℕ) (named within allowed : ℕ → Bool) (ws : List ℕ) (i w : ℕ) (vs : List ℕ) (j : ℕ) : Type 0 where

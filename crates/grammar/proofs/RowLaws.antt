@@ -12,18 +12,18 @@ use Rattle.integers.specs.Laws.{le-trans}
 use lib.ListN.{length, length-append, replicate, take, drop, take-append-drop, length-replicate}
 use lib.Seq.{drop-at, length-take-le}
 use borrow.Author.Tests.{eqb-true, eqb-false, eq-eqb, ne-eqb}
-use Rattle.integers.specs.Tests.{leZ-true, le-leZ}
+use Rattle.integers.specs.Tests.{leZ-true, le-leZ, and-true, not-true}
 use Rattle.words.specs.Words.{bits, kindOf, payload, word, signed, unsigned, ROW, TERM}
 use Rattle.words.proofs.Laws.{kind-word, payload-word, word-split, signed-unsigned, unsigned-signed, unsigned-lt}
 use Rattle.rows.specs.declared.Row.{Row}
 use Rattle.grammar.specs.Reading.{got, one, always, begins, optional, _>>=_, pure, after}
-use Rattle.grammar.specs.Grammar.{term, coefficient, coefficientAllowed, beginsTerm, coef, coefs, row, constantOf}
+use Rattle.grammar.specs.Grammar.{term, coefficient, coefficientAllowed, beginsTerm, coef, coefs, row, rowOf, constantOf, constantAllowed}
 use Rattle.grammar.specs.Encoding.{encodeCoef, encodeCoefs, encodeRow}
 use Rattle.grammar.specs.WellFormed.{Between, Each, RowOk}
-use Rattle.grammar.proofs.ReadingLaws.{Codec, Taken, retaken, one-taken, bound, joined, one-out, one-in, OneGot, and-true, not-got, optional-got}
+use Rattle.grammar.proofs.ReadingLaws.{Codec, Taken, retaken, one-taken, bound, joined, one-out, one-in, OneGot, not-got, optional-got}
 
 -- the bounds of a coefficient
-abbrev Coef : ℤ → Type 0
+abbrev pub Coef : ℤ → Type 0
 Coef = Between (negsuc 999) (pos 1000)
 
 widen : {a b c d z : ℤ} → a ≤ℤ b → c ≤ℤ d → Between b c z → Between a d z
@@ -37,10 +37,6 @@ coef-back c p = let q = coef-wide p in signed-unsigned 16 refl c (q .0) (q .1)
 
 coef-lt : (c : ℤ) → Coef c → unsigned 16 c < 2 ^ 16
 coef-lt c p = let q = coef-wide p in unsigned-lt 16 refl c (q .0) (q .1)
-
-not-true : (b : Bool) → not b ≡ true → b ≡ false
-not-true true h = sym h
-not-true false h = refl
 
 -- ---- one coefficient
 unnamed : ℕ → Bool
@@ -62,14 +58,14 @@ coef-out v ws i c vs j h =
       let o = one-out TERM (λ w. eqb (bits 23 16 w) 0) always coefficientAllowed ws i w us k e₁ in
       let t = subst (λ (l : List ℕ). beginsTerm v l ≡ true) (o .words) (p .0) in
       let (q, r) = and-true (eqb (kindOf w) TERM) (eqb (bits 27 24 w) v) t in
-      let (a₁, high) = and-true _ _ (o .allowed-is) in
-      let (some, low) = and-true _ _ a₁ in
+      let (some, both) = and-true _ _ (o .allowed-is) in
+      let (low, high) = and-true _ _ both in
       let same = coef-word v w (o .kind-is) (eqb-true (bits 27 24 w) v r) (eqb-true (bits 23 16 w) 0 (o .named-is)) (not-true _ some) in
       retaken (one-taken (encodeCoef v) (coefficient w) o same (leZ-true _ _ low, leZ-true _ _ high)) g))
     (λ p. retaken {a = pos 0} (record { words = refl; place = omega arith; good = zero-coef }) (p .1)) (optional-got (beginsTerm v ws) h)
 
 -- ---- the coefficients from v on
-coefs-out : (n v : ℕ) (ws : List ℕ) (i : ℕ) (cs : List ℤ) (vs : List ℕ) (j : ℕ) → coefs n v ws i ≡ got cs vs j
+pub coefs-out : (n v : ℕ) (ws : List ℕ) (i : ℕ) (cs : List ℤ) (vs : List ℕ) (j : ℕ) → coefs n v ws i ≡ got cs vs j
     → Taken (encodeCoefs v) (λ ys. (length ys ≡ n) × Each Coef ys) ws i cs vs j
 unfolding coefs encodeCoefs
 coefs-out zero v ws i cs vs j h =
@@ -176,12 +172,6 @@ each-take (suc n) [] p = tt
 each-take (suc n) (x ∷ xs) p = (p .0, each-take n xs (p .1))
 
 -- ---- a row
-abbrev constantAllowed : ℕ → Bool
-constantAllowed w = leZ (negsuc 999999) (constantOf w) && leZ (constantOf w) (pos 1000000)
-
-abbrev padded : ℕ → List ℤ → ℤ → Row
-padded vars cs k = record { coef = cs ++ replicate (8 - vars) (pos 0); constant = k }
-
 constant-wide : {z : ℤ} → Between (negsuc 999999) (pos 1000000) z → Between (negsuc 134217727) (pos 134217727) z
 constant-wide p = widen (leZ-yes tt) (leZ-yes tt) p
 
@@ -203,7 +193,7 @@ module _ (vars : ℕ) (few : vars ≤ 8) where
         let first : w ≡ word ROW (unsigned 28 (constantOf w)) = rw (unsigned-signed 28 refl (payload w) small) (word-split w (o .kind-is)) in
         let z = padded-same 0 (8 - vars) cs in
         let l = t .good .0 in
-        retaken {a = padded vars cs (constantOf w)} (record {
+        retaken {a = rowOf vars (constantOf w) cs} (record {
           words = o .words ∙ rw (← first, z) (ap (λ (l : List ℕ). w ∷ l) (t .words));
           place = rw z (omega (arith, o .place, t .place));
           good = record {
@@ -230,7 +220,7 @@ module _ (vars : ℕ) (few : vars ≤ 8) where
       let (j, e) = coefs-into 0 cs vs (suc i) (omega arith) (each-take vars (r .coef) (p .small)) h in
       let e′ : coefs vars 0 (encodeCoefs 0 (r .coef) ++ vs) (suc i) ≡ got cs vs j = rw same (subst (λ (m : ℕ). coefs m 0 (encodeCoefs 0 cs ++ vs) (suc i) ≡ got cs vs j) l e) in
       (j, rw (one-in ROW always always constantAllowed w (encodeCoefs 0 (r .coef) ++ vs) i (kind-word ROW (unsigned 28 (r .constant)) lt) refl refl (rw (a₁, a₂) refl), e′)
-      (ap (λ (x : Row). got x vs j) (row-same (padded vars cs (constantOf w)) r whole k)))
+      (ap (λ (x : Row). got x vs j) (row-same (rowOf vars (constantOf w) cs) r whole k)))
 
   pub row-codec : Codec (row vars) encodeRow (RowOk vars)
   row-codec = record { out = row-out; into = row-into; head = λ r vs p h. rw (kind-word ROW (unsigned 28 (r .constant)) (constant-lt (p .constant))) refl }

@@ -10,7 +10,7 @@ use lib.IntN.{ℤ, pos, negsuc}
 use lib.Signed.{_≤ℤ_, leZ}
 use lib.ListN.{length}
 use borrow.Author.Tests.{eqb-true, eq-eqb, ltb-true, lt-ltb}
-use Rattle.integers.specs.Tests.{leZ-true, le-leZ}
+use Rattle.integers.specs.Tests.{leZ-true, le-leZ, and-true, not-true}
 use Rattle.words.specs.Words.{bits, kindOf, payload, word, signed, unsigned, literalsOf, VAR, ROW, TERM, SETS}
 use Rattle.words.specs.declared.Literals.{Literals}
 use Rattle.words.proofs.Laws.{kind-word, payload-word, word-split, signed-unsigned, unsigned-signed, unsigned-lt, signed-between}
@@ -19,7 +19,7 @@ use Rattle.grammar.specs.Reading.{got, one, always, begins}
 use Rattle.grammar.specs.Grammar.{rangeOf, range, combination}
 use Rattle.grammar.specs.Encoding.{encodeRange, encodeLiterals}
 use Rattle.grammar.specs.WellFormed.{Between, RangeOk, LiteralsOk}
-use Rattle.grammar.proofs.ReadingLaws.{Codec, Taken, retaken, one-taken, bound, one-out, one-in, and-true, not-got}
+use Rattle.grammar.proofs.ReadingLaws.{Codec, Taken, retaken, one-taken, bound, one-out, one-in, not-got}
 
 -- ---- VAR
 range-same : (a b : Range) → a .low ≡ b .low → a .high ≡ b .high → a ≡ b

@@ -23,12 +23,15 @@ range room = do
     w ← one VAR always (λ w. room) (λ w. leZ (rangeOf w .low) (rangeOf w .high))
     pure (rangeOf w)
 
+abbrev pub between : ℤ → ℤ → ℤ → Bool
+between low high z = leZ low z && leZ z high
+
 -- TERM: variable 27..24, coefficient 15..0, from -1,000 to 1,000 and not 0
 abbrev pub coefficient : ℕ → ℤ
 coefficient w = signed 16 (bits 15 0 w)
 
 abbrev pub coefficientAllowed : ℕ → Bool
-coefficientAllowed w = not (eqb (bits 15 0 w) 0) && leZ (negsuc 999) (coefficient w) && leZ (coefficient w) (pos 1000)
+coefficientAllowed w = not (eqb (bits 15 0 w) 0) && between (negsuc 999) (pos 1000) (coefficient w)
 
 abbrev pub term : (ℕ → Bool) → Reader ℕ
 term allowed = one TERM (λ w. eqb (bits 23 16 w) 0) always allowed
@@ -53,11 +56,17 @@ coefs (suc n) v = do
 abbrev pub constantOf : ℕ → ℤ
 constantOf w = signed 28 (payload w)
 
+abbrev pub constantAllowed : ℕ → Bool
+constantAllowed w = between (negsuc 999999) (pos 1000000) (constantOf w)
+
+abbrev pub rowOf : ℕ → ℤ → List ℤ → Row
+rowOf vars constant cs = record { coef = cs ++ replicate (8 - vars) (pos 0); constant = constant }
+
 unfoldable pub row : ℕ → Reader Row
 row vars = do
-    w ← one ROW always always (λ w. leZ (negsuc 999999) (constantOf w) && leZ (constantOf w) (pos 1000000))
+    w ← one ROW always always constantAllowed
     cs ← coefs vars 0
-    pure (record { coef = cs ++ replicate (8 - vars) (pos 0); constant = constantOf w })
+    pure (rowOf vars (constantOf w) cs)
 
 -- INIT or PRED, and as many rows as it says
 abbrev pub rows : ℕ → ℕ → ℕ → Reader (List Row)

@@ -51,15 +51,20 @@ leZ-false (pos a) (negsuc b) e = record { lt = tt }
 leZ-false (negsuc a) (pos b) e = let z : _≡_ {A = ℕ} 0 1 = cc in absurd (omega arith)
 leZ-false (negsuc a) (negsuc b) e = record { lt = holds (lt-ltb a b (leb-false b a e)) }
 
-and-true : (a b : Bool) → (a && b) ≡ true → (a ≡ true) × (b ≡ true)
+pub not-true : (b : Bool) → not b ≡ true → b ≡ false
+not-true true h = sym h
+not-true false h = refl
+
+pub not-false : (b : Bool) → not b ≡ false → b ≡ true
+not-false true h = refl
+not-false false h = sym h
+
+pub and-true : (a b : Bool) → (a && b) ≡ true → (a ≡ true) × (b ≡ true)
 and-true true b e = (refl, e)
-and-true false b e = (e, let z : _≡_ {A = ℕ} 0 1 = cc in absurd (omega arith))
+and-true false b e = let z : _≡_ {A = ℕ} 0 1 = cc in absurd (omega arith)
 
 -- the range test of the code gives the bound
 pub within-test : (B : ℕ) (z : ℤ) → (leZ (negℤ (pos B)) z && leZ z (pos B)) ≡ true → Within B z
 within-test B z e =
     let p = and-true (leZ (negℤ (pos B)) z) (leZ z (pos B)) e in
     record { low = leZ-true (negℤ (pos B)) z (p .0); high = leZ-true z (pos B) (p .1) }
-
-thousand : (z : ℤ) → (leZ (negsuc 999) z && leZ z (pos 1000)) ≡ true → Within 1000 z
-thousand z e = within-test 1000 z e

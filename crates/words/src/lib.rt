@@ -56,22 +56,46 @@ fn signed_by(n: u32, half: u32) -> i64
     }
 }
 
-pub fn variable(w: u32) -> u32
+// The low end in a VAR word.
+pub fn low_end(w: u32) -> i64
+    ensures { λ r. ⌜ r ≡ signed 14 (bits 27 14 w) ⌝ }
+{
+    signed_by(w / 16384 % 16384, 8192)
+}
+
+// The high end in a VAR word.
+pub fn high_end(w: u32) -> i64
+    ensures { λ r. ⌜ r ≡ signed 14 (bits 13 0 w) ⌝ }
+{
+    signed_by(w % 16384, 8192)
+}
+
+// The constant in a ROW word.
+pub fn constant(w: u32) -> i64
+    ensures { λ r. ⌜ r ≡ signed 28 (payload w) ⌝ }
+{
+    signed_by(w % 268435456, 134217728)
+}
+
+// The variable in a TERM word.
+pub fn variable(w: u32) -> usize
     ensures { λ r. ⌜ r ≡ bits 27 24 w ⌝ }
 {
-    w / 16777216 % 16
+    (w / 16777216 % 16) as usize
 }
 
-pub fn low16(w: u32) -> u32
-    ensures { λ r. ⌜ r ≡ bits 15 0 w ⌝ }
+// The coefficient in a TERM word.
+pub fn coefficient(w: u32) -> i64
+    ensures { λ r. ⌜ r ≡ signed 16 (bits 15 0 w) ⌝ }
 {
-    w % 65536
+    signed_by(w % 65536, 32768)
 }
 
-pub fn guards(w: u32) -> u32
-    ensures { λ r. ⌜ r ≡ bits 7 4 w ⌝ }
+// The whole payload as a count or a number.
+pub fn count(w: u32) -> usize
+    ensures { λ r. ⌜ r ≡ payload w ⌝ }
 {
-    w / 16 % 16
+    (w % 268435456) as usize
 }
 
 // A set of literals as the payload of SETS: bit p for predicate p known true, bit 14 + p for predicate p known false.
