@@ -15,61 +15,73 @@ use Rattle.words.proofs.Laws.{kind-word, payload-word, word-split}
 use Rattle.rows.specs.declared.Row.{Row}
 use Rattle.grammar.specs.Reading.{got, one, always, begins, times, many}
 use Rattle.grammar.specs.Programs.{Assignment, Action}
-use Rattle.grammar.specs.Grammar.{row, sets, action, combination}
-use Rattle.grammar.specs.Encoding.{concat, encodeRow, encodeSet, encodeAction, encodeLiterals}
-use Rattle.grammar.specs.WellFormed.{Each, Few, RowOk, Rising, ActionOk, LiteralsOk}
+use Rattle.grammar.specs.Grammar.{row, assignment, sets, action}
+use Rattle.grammar.specs.Encoding.{concat, encodeRow, encodeSet, encodeAction}
+use Rattle.grammar.specs.WellFormed.{Each, Few, RowOk, SetOk, Rising, ActionOk}
 use Rattle.grammar.proofs.ReadingLaws.{Codec, Taken, retaken, one-taken, bound, joined, one-out, one-in, times-codec, concat-head}
 use Rattle.grammar.proofs.RowLaws.{row-codec}
 
 -- ---- assignments
-abbrev setAllowed : ℕ → ℕ → ℕ → Bool
+abbrev pub setAllowed : ℕ → ℕ → ℕ → Bool
 setAllowed vars v w = leb v (payload w) && ltb (payload w) vars
 
 module _ (vars : ℕ) (few : vars ≤ 8) where
+  pub assignment-out : (v : ℕ) (ws : List ℕ) (i : ℕ) (s : Assignment) (vs : List ℕ) (j : ℕ) → assignment vars v ws i ≡ got s vs j → Taken encodeSet (SetOk vars v) ws i s vs j
+  unfolding assignment
+  assignment-out v ws i s vs j h =
+      bound (one SET always always (setAllowed vars v) ws i) _ h (λ w us k e₁ h₁. bound (row vars us k) _ h₁ (λ r us₁ k₁ e₂ h₂.
+        let o = one-out SET always always (setAllowed vars v) ws i w us k e₁ in
+        let t = row-codec vars few .out us k r us₁ k₁ e₂ in
+        let (low, high) = and-true (leb v (payload w)) (ltb (payload w) vars) (o .allowed-is) in
+        let first : w ≡ word SET (payload w) = word-split w (o .kind-is) in
+        retaken {a = record { variable = payload w; row = r }} (record {
+          words = o .words ∙ rw (← first) (ap (λ (l : List ℕ). w ∷ l) (t .words));
+          place = omega (arith, o .place, t .place);
+          good = record { from = leb-true v (payload w) low; below = ltb-true (payload w) vars high; row = t .good };
+        }) h₂))
+
+  set-kind : (s : Assignment) {v : ℕ} → SetOk vars v s → kindOf (word SET (s .variable)) ≡ SET
+  set-kind s p = kind-word SET (s .variable) (omega (arith, p .below))
+
+  assignment-into : (v : ℕ) (s : Assignment) (vs : List ℕ) (i : ℕ) → SetOk vars v s → begins TERM vs ≡ false → (j : ℕ) × (assignment vars v (encodeSet s ++ vs) i ≡ got s vs j)
+  unfolding assignment
+  assignment-into v s vs i p h =
+      let w = word SET (s .variable) in
+      let same : payload w ≡ s .variable = payload-word SET (s .variable) (omega (arith, p .below)) in
+      let a : setAllowed vars v w ≡ true = rw (same, le-leb v (s .variable) (p .from), lt-ltb (s .variable) vars (p .below)) refl in
+      let (j, e) = row-codec vars few .into (s .row) vs (suc i) (p .row) h in
+      (j, rw (one-in SET always always (setAllowed vars v) w (encodeRow (s .row) ++ vs) i (set-kind s p) refl refl a, e) (ap (λ (u : ℕ). got (record { variable = u; row = s .row }) vs j) same))
+
   sets-out : (n v : ℕ) (ws : List ℕ) (i : ℕ) (ss : List Assignment) (vs : List ℕ) (j : ℕ) → sets vars n v ws i ≡ got ss vs j
       → Taken (concat encodeSet) (λ xs. (length xs ≡ n) × Rising vars v xs) ws i ss vs j
   unfolding sets concat
   sets-out zero v ws i ss vs j h = retaken {a = []} (record { words = refl; place = omega arith; good = (refl, tt) }) h
   sets-out (suc n) v ws i ss vs j h =
-      bound (one SET always always (setAllowed vars v) ws i) _ h (λ w us k e₁ h₁. bound (row vars us k) _ h₁ (λ r us₁ k₁ e₂ h₂.
-      bound (sets vars n (suc (payload w)) us₁ k₁) _ h₂ (λ xs us₂ k₂ e₃ h₃.
-        let o = one-out SET always always (setAllowed vars v) ws i w us k e₁ in
-        let t = row-codec vars few .out us k r us₁ k₁ e₂ in
-        let s = sets-out n (suc (payload w)) us₁ k₁ xs us₂ k₂ e₃ in
-        let (low, high) = and-true (leb v (payload w)) (ltb (payload w) vars) (o .allowed-is) in
-        let first : w ≡ word SET (payload w) = word-split w (o .kind-is) in
-        let m = joined t s in
-        retaken {a = record { variable = payload w; row = r } ∷ xs} (record {
-          words = o .words ∙ rw (← first) (ap (λ (l : List ℕ). w ∷ l) (m .0));
-          place = omega (arith, o .place, m .1);
-          good = (ap suc (s .good .0), (leb-true v (payload w) low, ltb-true (payload w) vars high, t .good, s .good .1));
-        }) h₃)))
+      bound (assignment vars v ws i) _ h (λ s us k e₁ h₁. bound (sets vars n (suc (s .variable)) us k) _ h₁ (λ xs us₁ k₁ e₂ h₂.
+        let t = assignment-out v ws i s us k e₁ in
+        let r = sets-out n (suc (s .variable)) us k xs us₁ k₁ e₂ in
+        let m = joined t r in
+        retaken {a = s ∷ xs} (record { words = m .0; place = m .1; good = (ap suc (r .good .0), (t .good, r .good .1)) }) h₂))
 
   sets-head : (v : ℕ) (ss : List Assignment) (vs : List ℕ) → Rising vars v ss → begins TERM vs ≡ false → begins TERM (concat encodeSet ss ++ vs) ≡ false
   unfolding concat
   sets-head v [] vs p h = h
-  sets-head v (s ∷ ss) vs p h = rw (kind-word SET (s .variable) (omega (arith, p .1))) refl
+  sets-head v (s ∷ ss) vs p h = rw (set-kind s (p .0)) refl
 
   sets-into : (v : ℕ) (ss : List Assignment) (vs : List ℕ) (i : ℕ) → Rising vars v ss → begins TERM vs ≡ false → (j : ℕ) × (sets vars (length ss) v (concat encodeSet ss ++ vs) i ≡ got ss vs j)
   unfolding sets concat
   sets-into v [] vs i p h = (i, refl)
   sets-into v (s ∷ ss) vs i p h =
-      let w = word SET (s .variable) in
-      let rest = concat encodeSet ss ++ vs in
-      let small : s .variable < 2 ^ 28 = omega (arith, p .1) in
-      let same : payload w ≡ s .variable = payload-word SET (s .variable) small in
-      let a : setAllowed vars v w ≡ true = rw (same, le-leb v (s .variable) (p .0), lt-ltb (s .variable) vars (p .1)) refl in
-      let (k, e₁) = row-codec vars few .into (s .row) rest (suc i) (p .2) (sets-head (suc (s .variable)) ss vs (p .3) h) in
-      let (j, e₂) = sets-into (suc (s .variable)) ss vs k (p .3) h in
-      let e₃ : sets vars (length ss) (suc (payload w)) rest k ≡ got ss vs j = rw same e₂ in
-      (j, rw (append-assoc (encodeRow (s .row)) (concat encodeSet ss) vs, one-in SET always always (setAllowed vars v) w (encodeRow (s .row) ++ rest) i (kind-word SET (s .variable) small) refl refl a, e₁, e₃)
-      (ap (λ (u : ℕ). got (record { variable = u; row = s .row } ∷ ss) vs j) same))
+      let next = suc (s .variable) in
+      let (k, e₁) = assignment-into v s (concat encodeSet ss ++ vs) i (p .0) (sets-head next ss vs (p .1) h) in
+      let (j, e₂) = sets-into next ss vs k (p .1) h in
+      (j, rw (append-assoc (encodeSet s) (concat encodeSet ss) vs, e₁, e₂) refl)
 
 -- ---- an action
-abbrev actionNamed : ℕ → Bool
+abbrev pub actionNamed : ℕ → Bool
 actionNamed w = eqb (bits 27 8 w) 0
 
-abbrev actionWithin : Bool → ℕ → Bool
+abbrev pub actionWithin : Bool → ℕ → Bool
 actionWithin room w = room && leb (bits 7 4 w) 8 && leb (bits 3 0 w) 8
 
 action-fields : (g n : ℕ) → g ≤ 8 → n ≤ 8 → (bits 7 4 (word ACTION (g * 16 + n)) ≡ g) × (bits 3 0 (word ACTION (g * 16 + n)) ≡ n) × (bits 27 8 (word ACTION (g * 16 + n)) ≡ 0)

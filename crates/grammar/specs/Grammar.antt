@@ -74,14 +74,20 @@ rows kind most vars = do
     w ← one kind always (λ w. leb (payload w) most) always
     times (payload w) (row vars)
 
--- n assignments, to variables from v on
+-- SET and a row: an assignment to a variable from v on
+unfoldable pub assignment : ℕ → ℕ → Reader Assignment
+assignment vars v = do
+    w ← one SET always always (λ w. leb v (payload w) && ltb (payload w) vars)
+    r ← row vars
+    pure (record { variable = payload w; row = r })
+
+-- n assignments, variables strictly rising
 unfoldable pub sets : ℕ → ℕ → ℕ → Reader (List Assignment)
 sets vars zero v = pure []
 sets vars (suc n) v = do
-    w ← one SET always always (λ w. leb v (payload w) && ltb (payload w) vars)
-    r ← row vars
-    ss ← sets vars n (suc (payload w))
-    pure (record { variable = payload w; row = r } ∷ ss)
+    s ← assignment vars v
+    ss ← sets vars n (suc (s .variable))
+    pure (s ∷ ss)
 
 -- ACTION: guard rows 7..4, assignments 3..0, each 0 to 8
 unfoldable pub action : ℕ → Bool → Reader Action

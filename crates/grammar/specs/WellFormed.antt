@@ -36,10 +36,16 @@ pub record RowOk (vars : ℕ) (r : Row) : Type 0 where
   pub absent : drop vars (r .coef) ≡ replicate (8 - vars) (pos 0)
   pub constant : Between (negsuc 999999) (pos 1000000) (r .constant)
 
+-- an assignment to a variable from v on
+pub record SetOk (vars v : ℕ) (s : Assignment) : Type 0 where
+  pub from : v ≤ s .variable
+  pub below : s .variable < vars
+  pub row : RowOk vars (s .row)
+
 -- assignments to variables that rise from v on
 abbrev pub Rising : ℕ → ℕ → List Assignment → Type 0
 Rising vars v [] = Unit {0}
-Rising vars v (s ∷ ss) = (v ≤ s .variable) × (s .variable < vars) × RowOk vars (s .row) × Rising vars (suc (s .variable)) ss
+Rising vars v (s ∷ ss) = SetOk vars v s × Rising vars (suc (s .variable)) ss
 
 pub record ActionOk (vars : ℕ) (a : Action) : Type 0 where
   pub guards : Few 8 (RowOk vars) (a .guards)

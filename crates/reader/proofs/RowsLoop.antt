@@ -19,7 +19,8 @@ use Rattle.reader.specs.declared.Next.{Next}
 use Rattle.reader.specs.declared.Next.the-variants.{At, Refused}
 use Rattle.reader.specs.declared.RowRead.{RowRead}
 use Rattle.reader.specs.declared.Rows.{Rows}
-use Rattle.reader.specs.Results.{rowRead, rowsFrom, rowsRead, zeroRows}
+use Rattle.reader.proofs.Laws.{next-refused, next-at}
+use Rattle.reader.specs.Results.{nextOf, rowRead, rowsFrom, rowsRead, zeroRows}
 
 module _ (vars : ℕ) (ws : List ℕ) (i : ℕ) where
   pub row-refused : {r : Refusal} → one ROW always always constantAllowed ws i ≡ refused r → row vars ws i ≡ refused r
@@ -40,17 +41,34 @@ module _ {A : Type 0} {e : A → List ℕ} {P : A → Type 0} (ws : List ℕ) {i
   pub left-within : j ≤ length ws
   left-within = omega (arith, t .place, length-drop i ws, length-append (e a) vs, ap length (t .words))
 
--- ---- the row reader's answer, taken apart
+-- ---- a reader's answer with its place in a field, taken apart
+module _ {A X : Type 0} (f : Read A → X) (next : X → Next) (same : (m : Read A) → next (f m) ≡ nextOf m) where
+  pub answer-refused : (m : Read A) {x : X} {r : Refusal} → x ≡ f m → next x ≡ Refused r → m ≡ refused r
+  answer-refused m e h = next-refused m (sym (same m) ∙ sym (ap next e) ∙ h)
+
+  pub answer-at : (m : Read A) {x : X} {j : ℕ} {R : Type 0} → x ≡ f m → next x ≡ At j → ((a : A) (us : List ℕ) → m ≡ got a us j → x ≡ f (got a us j) → R) → R
+  answer-at m e h g = let (a, us, q) = next-at m (sym (same m) ∙ sym (ap next e) ∙ h) in g a us q (e ∙ ap f q)
+
+row-next : (m : Read Row) → rowRead m .next ≡ nextOf m
+row-next (got a ws i) = refl
+row-next (refused x) = refl
+
 pub row-read-refused : (m : Read Row) {x : RowRead} {r : Refusal} → x ≡ rowRead m → x .next ≡ Refused r → m ≡ refused r
-row-read-refused (got a ws i) e h = let z : _≡_ {A = ℕ} 0 1 = cc (ap (λ (y : RowRead). y .next) e) in absurd (omega arith)
-row-read-refused (refused y) e h = cc (ap (λ (y : RowRead). y .next) e)
+row-read-refused m e h = answer-refused rowRead (λ x. x .next) row-next m e h
 
 pub row-read-at : (m : Read Row) {x : RowRead} {j : ℕ} → x ≡ rowRead m → x .next ≡ At j → (us : List ℕ) × (m ≡ got (x .row) us j)
-row-read-at (got a ws i) {j = j} e h =
-    let p : i ≡ j = cc (ap (λ (y : RowRead). y .next) e) in
-    let q = ap (λ (y : RowRead). y .row) e in
-    (ws, rw (q, p) refl)
-row-read-at (refused y) e h = let z : _≡_ {A = ℕ} 0 1 = cc (ap (λ (y : RowRead). y .next) e) in absurd (omega arith)
+row-read-at m {j = j} e h = answer-at rowRead (λ x. x .next) row-next m e h (λ a us q w. (us, q ∙ ap (λ (r : Row). got r us j) (sym (ap (λ (y : RowRead). y .row) w))))
+
+rows-next : (m : Read (List Row)) → rowsRead m .next ≡ nextOf m
+rows-next (got xs ws i) = refl
+rows-next (refused x) = refl
+
+pub rows-read-refused : (m : Read (List Row)) {x : Rows} {r : Refusal} → x ≡ rowsRead m → x .next ≡ Refused r → m ≡ refused r
+rows-read-refused m e h = answer-refused rowsRead (λ x. x .next) rows-next m e h
+
+pub rows-read-at : (m : Read (List Row)) {x : Rows} {j : ℕ} {R : Type 0} → x ≡ rowsRead m → x .next ≡ At j
+    → ((rs : List Row) (us : List ℕ) → m ≡ got rs us j → x .rows ≡ sets zeroRows 0 rs → R) → R
+rows-read-at m e h g = answer-at rowsRead (λ x. x .next) rows-next m e h (λ rs us q w. g rs us q (ap (λ (y : Rows). y .rows) w))
 
 -- ---- the loop over n rows: k rows are stored, and the words from i on are left
 pub record RowsLoop (ws : List ℕ) (at n vars : ℕ) (rs : List Row) (i k : ℕ) : Type 0 where

@@ -144,7 +144,7 @@ fn constant_allowed(w: u32) -> bool
 }
 
 // The row at the front of a part of the word list. The part begins at the index `base` of the whole list.
-pub fn read_row(part: &[u32], base: usize, vars: usize) -> RowRead
+fn read_row(part: &[u32], base: usize, vars: usize) -> RowRead
     requires { ⌜ (vars ≤ 8) × (base + length (now part) < 2 ^ 64) ⌝ }
     ensures { λ r. ⌜ r ≡ rowRead (row vars (now (part .entry)) base) ⌝ }
 {
@@ -155,6 +155,14 @@ pub fn read_row(part: &[u32], base: usize, vars: usize) -> RowRead
         return no_row(why);
     }
     read_terms(part, base, vars, words::constant(w))
+}
+
+// The row that begins at an index: the part of the list from there on goes to the row reader.
+pub fn row_at(words: &[u32], at: usize, vars: usize) -> RowRead
+    requires { ⌜ (vars ≤ 8) × (at ≤ length (now words)) ⌝ }
+    ensures { λ r. ⌜ r ≡ rowRead (row vars (drop at (now (words .entry))) at) ⌝ }
+{
+    read_row(&words[at..], at, vars)
 }
 
 // Rows from place 0 on, and where reading goes on. Where it stops, all rows are zero.
@@ -172,7 +180,7 @@ fn no_rows(why: Refusal) -> Rows
     }
 }
 
-// The n rows from an index on. The part of the list from each row's first word on goes to the row reader.
+// The n rows from an index on.
 pub fn read_rows(words: &[u32], at: usize, n: usize, vars: usize) -> Rows
     requires { ⌜ (vars ≤ 8) × (n ≤ 14) × (at ≤ length (now words)) ⌝ }
     ensures { λ r. ⌜ r ≡ rowsRead (times n (row vars) (drop at (now (words .entry))) at) ⌝ }
@@ -181,7 +189,7 @@ pub fn read_rows(words: &[u32], at: usize, n: usize, vars: usize) -> Rows
     let mut i = at;
     let mut k: usize = 0;
     while k < n {
-        let read = read_row(&words[i..], i, vars);
+        let read = row_at(words, i, vars);
         let next = read.next;
         match next {
             Next::Refused(why) => {

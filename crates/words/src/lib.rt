@@ -98,6 +98,20 @@ pub fn count(w: u32) -> usize
     (w % 268435456) as usize
 }
 
+// The number of guard rows in an ACTION word.
+pub fn guards(w: u32) -> usize
+    ensures { λ r. ⌜ (r ≡ bits 7 4 w) × (r < 16) ⌝ }
+{
+    (w / 16 % 16) as usize
+}
+
+// The number of assignments in an ACTION word.
+pub fn assignments(w: u32) -> usize
+    ensures { λ r. ⌜ r ≡ bits 3 0 w ⌝ }
+{
+    (w % 16) as usize
+}
+
 // A set of literals as the payload of SETS: bit p for predicate p known true, bit 14 + p for predicate p known false.
 pub struct Literals(pub u32);
 

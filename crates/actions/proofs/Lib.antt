@@ -1,0 +1,2 @@
+pub mod SetsLoop
+pub mod ActionParts
