@@ -16,7 +16,7 @@ use Rattle.words.specs.declared.Literals.{Literals}
 use Rattle.words.proofs.Laws.{kind-word, payload-word, word-split, signed-unsigned, unsigned-signed, unsigned-lt, signed-between}
 use Rattle.rows.specs.declared.Range.{Range}
 use Rattle.grammar.specs.Reading.{got, one, always, begins}
-use Rattle.grammar.specs.Grammar.{rangeOf, range, combination}
+use Rattle.grammar.specs.Grammar.{rangeOf, range, combination, literalsAllowed}
 use Rattle.grammar.specs.Encoding.{encodeRange, encodeLiterals}
 use Rattle.grammar.specs.WellFormed.{Between, RangeOk, LiteralsOk}
 use Rattle.grammar.proofs.ReadingLaws.{Codec, Taken, retaken, one-taken, bound, one-out, one-in, not-got}
@@ -57,7 +57,7 @@ module _ (r : Range) (ok : RangeOk r) where
       range-same (rangeOf range-bits) r (ap (signed 14) p ∙ signed-unsigned 14 refl (r .low) (ok .low .0) (ok .low .1))
       (ap (signed 14) q ∙ signed-unsigned 14 refl (r .high) (ok .high .0) (ok .high .1))
 
-abbrev ordered : ℕ → Bool
+abbrev pub ordered : ℕ → Bool
 ordered w = leZ (rangeOf w .low) (rangeOf w .high)
 
 pub range-codec : Codec (range true) encodeRange RangeOk
@@ -87,7 +87,7 @@ range-starts a vs p = rw (range-kind a p) refl
 -- ---- SETS
 module _ (preds : ℕ) where
   abbrev known : ℕ → Bool
-  known w = ltb (bits 27 14 w) (2 ^ preds) && ltb (bits 13 0 w) (2 ^ preds) && eqb (bitAnd (bits 27 14 w) (bits 13 0 w)) 0
+  known = literalsAllowed preds
 
   pub literals-codec : Codec (combination preds true) encodeLiterals (LiteralsOk preds)
   literals-codec =

@@ -4,7 +4,7 @@ use Prim.Native.Nat.{ℕ}
 use Rattle.words.specs.declared.Refusal.the-variants.{Word, Limit, Value}
 use lib.IntN.{ℤ, pos, negsuc}
 use Rattle.grammar.specs.Reading.{Read, got, refused, due, one, times, many}
-use Rattle.grammar.specs.Grammar.{program, coefs, row, assignment, sets, action}
+use Rattle.grammar.specs.Grammar.{program, ranges, rows, end, coefs, row, assignment, sets, action}
 use Rattle.grammar.specs.Programs.{Program}
 use Rattle.grammar.specs.Encoding.{encode, concat, encodeCoefs}
 
@@ -18,5 +18,5 @@ back (got p ws i) = encode p
 back (refused r) = []
 
 same : back (program fade 0) ≡ fade
-unfolding fade program coefs row assignment sets action due one times many encode concat encodeCoefs
+unfolding fade program ranges rows end coefs row assignment sets action due one times many encode concat encodeCoefs
 same = refl

@@ -69,7 +69,7 @@ row vars = do
     pure (rowOf vars (constantOf w) cs)
 
 -- INIT or PRED, and as many rows as it says
-abbrev pub rows : ℕ → ℕ → ℕ → Reader (List Row)
+unfoldable pub rows : ℕ → ℕ → ℕ → Reader (List Row)
 rows kind most vars = do
     w ← one kind always (λ w. leb (payload w) most) always
     times (payload w) (row vars)
@@ -98,9 +98,12 @@ action vars room = do
     pure (record { guards = gs; sets = ss })
 
 -- SETS: known-false predicates 27..14, known-true 13..0; each in the program, and none in both
+abbrev pub literalsAllowed : ℕ → ℕ → Bool
+literalsAllowed preds w = ltb (bits 27 14 w) (2 ^ preds) && ltb (bits 13 0 w) (2 ^ preds) && eqb (bitAnd (bits 27 14 w) (bits 13 0 w)) 0
+
 abbrev pub combination : ℕ → Bool → Reader Literals
 combination preds room = do
-    w ← one SETS always (λ w. room) (λ w. ltb (bits 27 14 w) (2 ^ preds) && ltb (bits 13 0 w) (2 ^ preds) && eqb (bitAnd (bits 27 14 w) (bits 13 0 w)) 0)
+    w ← one SETS always (λ w. room) (literalsAllowed preds)
     pure (literalsOf w)
 
 -- END, and nothing after it
@@ -108,14 +111,24 @@ abbrev pub nothing : Reader ℕ
 nothing [] i = got 0 [] i
 nothing (w ∷ ws) i = refused (Word i)
 
-unfoldable pub program : Reader Program
-program = do
+unfoldable pub end : Reader ℕ
+end = do
+    w ← one END (λ w. eqb (payload w) 0) always always
+    nothing
+
+-- 1 to 8 VAR
+unfoldable pub ranges : Reader (List Range)
+ranges = do
     r ← range true
     rs ← many VAR range 7
-    start ← rows INIT 8 (suc (length rs))
-    predicates ← rows PRED 14 (suc (length rs))
-    actions ← many ACTION (action (suc (length rs))) 16
-    forbidden ← many SETS (combination (length predicates)) 8
-    w ← one END (λ w. eqb (payload w) 0) always always
-    e ← nothing
-    pure (record { ranges = r ∷ rs; start = start; predicates = predicates; actions = actions; forbidden = forbidden })
+    pure (r ∷ rs)
+
+unfoldable pub program : Reader Program
+program = do
+    gs ← ranges
+    start ← rows INIT 8 (length gs)
+    preds ← rows PRED 14 (length gs)
+    actions ← many ACTION (action (length gs)) 16
+    forbidden ← many SETS (combination (length preds)) 8
+    e ← end
+    pure (record { ranges = gs; start = start; predicates = preds; actions = actions; forbidden = forbidden })
