@@ -67,5 +67,5 @@ module _ (vars : ℕ) (few : vars ≤ 8) (room : Bool) (ws : List ℕ) (at i w j
       let t = times-codec (row-codec vars few) (bits 7 4 w) .out (drop i ws) i gs us j q in
       let m = sets vars (bits 3 0 w) 0 (drop j ws) j in
       let whole : action vars room (drop at ws) at ≡ after m (λ ss. pure (record { guards = gs; sets = ss })) =
-        guards-taken vars room (drop at ws) at e q ∙ ap (λ (vs : List ℕ). after (sets vars (bits 3 0 w) 0 vs j) (λ ss. pure (record { guards = gs; sets = ss }))) (left-is ws l t) in
+      guards-taken vars room (drop at ws) at e q ∙ ap (λ (vs : List ℕ). after (sets vars (bits 3 0 w) 0 vs j) (λ ss. pure (record { guards = gs; sets = ss }))) (left-is ws l t) in
       rw (g, s, whole, ← t .good .0) (put-together gs m))

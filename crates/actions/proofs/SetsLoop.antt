@@ -80,14 +80,16 @@ module _ (ws : List ℕ) (at n vars : ℕ) (room : vars ≤ 8) where
     unfolding sets
     sets-turn h {s} {us} {j} e =
         let o = assignment-out vars room low (drop i ws) i s us j e in
-        let rest = left-is ws (t .here) o in
-        (omega (arith, o .good .below), record {
-          few = omega arith;
-          long = length-set rs (s .variable) (s .row) ∙ t .long;
-          marks = length-set bs (s .variable) true ∙ t .marks;
-          here = left-within ws (t .here) o;
-          same = rw (add-one k, add-one (s .variable), ← t .same, step h, e, rest) (sym (sets-more rs bs s (sets vars (n - suc k) (suc (s .variable)) (drop j ws) j)));
-        })
+        let rest = left-is ws (t .here) o in (
+          omega (arith, o .good .below),
+          record {
+            few = omega arith;
+            long = length-set rs (s .variable) (s .row) ∙ t .long;
+            marks = length-set bs (s .variable) true ∙ t .marks;
+            here = left-within ws (t .here) o;
+            same = rw (add-one k, add-one (s .variable), ← t .same, step h, e, rest) (sym (sets-more rs bs s (sets vars (n - suc k) (suc (s .variable)) (drop j ws) j)));
+          },
+        )
 
     pub sets-ended : n ≤ k → record { rows = rs; set = bs; next = At i } ≡ setsRead (sets vars n 0 (drop at ws) at)
     unfolding sets assigned marked

@@ -7,11 +7,10 @@ ghost use lib.ListN.{length, drop};
 ghost use Rattle.grammar.specs.Reading.{refused};
 ghost use Rattle.grammar.specs.Grammar.{assignment, sets, action};
 ghost use Rattle.actions.specs.Results.{setRead, keepRows, noSets, setsRead, actionRead, withSets};
-
+use reader::Next;
+use rows::Row;
 use words::Kind;
 use words::Refusal;
-use rows::Row;
-use reader::Next;
 
 // An assignment, and where reading goes on.
 pub struct SetRead {

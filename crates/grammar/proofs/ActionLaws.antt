@@ -30,15 +30,15 @@ module _ (vars : ℕ) (few : vars ≤ 8) where
   unfolding assignment
   assignment-out v ws i s vs j h =
       bound (one SET always always (setAllowed vars v) ws i) _ h (λ w us k e₁ h₁. bound (row vars us k) _ h₁ (λ r us₁ k₁ e₂ h₂.
-        let o = one-out SET always always (setAllowed vars v) ws i w us k e₁ in
-        let t = row-codec vars few .out us k r us₁ k₁ e₂ in
-        let (low, high) = and-true (leb v (payload w)) (ltb (payload w) vars) (o .allowed-is) in
-        let first : w ≡ word SET (payload w) = word-split w (o .kind-is) in
-        retaken {a = record { variable = payload w; row = r }} (record {
-          words = o .words ∙ rw (← first) (ap (λ (l : List ℕ). w ∷ l) (t .words));
-          place = omega (arith, o .place, t .place);
-          good = record { from = leb-true v (payload w) low; below = ltb-true (payload w) vars high; row = t .good };
-        }) h₂))
+      let o = one-out SET always always (setAllowed vars v) ws i w us k e₁ in
+      let t = row-codec vars few .out us k r us₁ k₁ e₂ in
+      let (low, high) = and-true (leb v (payload w)) (ltb (payload w) vars) (o .allowed-is) in
+      let first : w ≡ word SET (payload w) = word-split w (o .kind-is) in
+      retaken {a = record { variable = payload w; row = r }} (record {
+        words = o .words ∙ rw (← first) (ap (λ (l : List ℕ). w ∷ l) (t .words));
+        place = omega (arith, o .place, t .place);
+        good = record { from = leb-true v (payload w) low; below = ltb-true (payload w) vars high; row = t .good };
+      }) h₂))
 
   set-kind : (s : Assignment) {v : ℕ} → SetOk vars v s → kindOf (word SET (s .variable)) ≡ SET
   set-kind s p = kind-word SET (s .variable) (omega (arith, p .below))
@@ -58,10 +58,10 @@ module _ (vars : ℕ) (few : vars ≤ 8) where
   sets-out zero v ws i ss vs j h = retaken {a = []} (record { words = refl; place = omega arith; good = (refl, tt) }) h
   sets-out (suc n) v ws i ss vs j h =
       bound (assignment vars v ws i) _ h (λ s us k e₁ h₁. bound (sets vars n (suc (s .variable)) us k) _ h₁ (λ xs us₁ k₁ e₂ h₂.
-        let t = assignment-out v ws i s us k e₁ in
-        let r = sets-out n (suc (s .variable)) us k xs us₁ k₁ e₂ in
-        let m = joined t r in
-        retaken {a = s ∷ xs} (record { words = m .0; place = m .1; good = (ap suc (r .good .0), (t .good, r .good .1)) }) h₂))
+      let t = assignment-out v ws i s us k e₁ in
+      let r = sets-out n (suc (s .variable)) us k xs us₁ k₁ e₂ in
+      let m = joined t r in
+      retaken {a = s ∷ xs} (record { words = m .0; place = m .1; good = (ap suc (r .good .0), (t .good, r .good .1)) }) h₂))
 
   sets-head : (v : ℕ) (ss : List Assignment) (vs : List ℕ) → Rising vars v ss → begins TERM vs ≡ false → begins TERM (concat encodeSet ss ++ vs) ≡ false
   unfolding concat
@@ -93,25 +93,25 @@ module _ (vars : ℕ) (few : vars ≤ 8) where
   action-out ws i a vs j h =
       bound (one ACTION actionNamed (actionWithin true) always ws i) _ h (λ w us k e₁ h₁. bound (times (bits 7 4 w) (row vars) us k) _ h₁ (λ gs us₁ k₁ e₂ h₂.
       bound (sets vars (bits 3 0 w) 0 us₁ k₁) _ h₂ (λ ss us₂ k₂ e₃ h₃.
-        let o = one-out ACTION actionNamed (actionWithin true) always ws i w us k e₁ in
-        let t = times-codec (row-codec vars few) (bits 7 4 w) .out us k gs us₁ k₁ e₂ in
-        let s = sets-out vars few (bits 3 0 w) 0 us₁ k₁ ss us₂ k₂ e₃ in
-        let (g, l) = and-true (leb (bits 7 4 w) 8) (leb (bits 3 0 w) 8) (o .within-is) in
-        let n : bits 27 8 w ≡ 0 = eqb-true (bits 27 8 w) 0 (o .named-is) in
-        let kind = o .kind-is in
-        let gl = t .good .0 in
-        let sl = s .good .0 in
-        let first : w ≡ word ACTION (length gs * 16 + length ss) = rw (gl, sl) (omega arith) in
-        let m = joined t s in
-        retaken {a = record { guards = gs; sets = ss }} (record {
-          words = o .words ∙ rw (← first) (ap (λ (l : List ℕ). w ∷ l) (m .0));
-          place = omega (arith, o .place, m .1);
-          good = record {
-            guards = record { few = rw gl (leb-true (bits 7 4 w) 8 g); each = t .good .1 };
-            few = rw sl (leb-true (bits 3 0 w) 8 l);
-            rising = s .good .1;
-          };
-        }) h₃)))
+      let o = one-out ACTION actionNamed (actionWithin true) always ws i w us k e₁ in
+      let t = times-codec (row-codec vars few) (bits 7 4 w) .out us k gs us₁ k₁ e₂ in
+      let s = sets-out vars few (bits 3 0 w) 0 us₁ k₁ ss us₂ k₂ e₃ in
+      let (g, l) = and-true (leb (bits 7 4 w) 8) (leb (bits 3 0 w) 8) (o .within-is) in
+      let n : bits 27 8 w ≡ 0 = eqb-true (bits 27 8 w) 0 (o .named-is) in
+      let kind = o .kind-is in
+      let gl = t .good .0 in
+      let sl = s .good .0 in
+      let first : w ≡ word ACTION (length gs * 16 + length ss) = rw (gl, sl) (omega arith) in
+      let m = joined t s in
+      retaken {a = record { guards = gs; sets = ss }} (record {
+        words = o .words ∙ rw (← first) (ap (λ (l : List ℕ). w ∷ l) (m .0));
+        place = omega (arith, o .place, m .1);
+        good = record {
+          guards = record { few = rw gl (leb-true (bits 7 4 w) 8 g); each = t .good .1 };
+          few = rw sl (leb-true (bits 3 0 w) 8 l);
+          rising = s .good .1;
+        };
+      }) h₃)))
 
   action-kind : (a : Action) → ActionOk vars a → kindOf (word ACTION (length (a .guards) * 16 + length (a .sets))) ≡ ACTION
   action-kind a p = kind-word ACTION (length (a .guards) * 16 + length (a .sets)) (omega (arith, p .guards .few, p .few))
@@ -127,10 +127,18 @@ module _ (vars : ℕ) (few : vars ≤ 8) where
       let (bg, bn, named) = action-fields g n gl sl in
       let rest = concat encodeSet (a .sets) ++ vs in
       let (k, e₁) = times-codec (row-codec vars few) g .into (a .guards) rest (suc i) (refl, p .guards .each) (sets-head vars few 0 (a .sets) vs (p .rising) h) in
-      let (j, e₂) = sets-into vars few 0 (a .sets) vs k (p .rising) h in
-      (j, rw (append-assoc (concat encodeRow (a .guards)) (concat encodeSet (a .sets)) vs,
-      one-in ACTION actionNamed (actionWithin true) always w (concat encodeRow (a .guards) ++ rest) i (action-kind a p) (eq-eqb (bits 27 8 w) 0 named)
-      (rw (bg, bn, le-leb g 8 gl, le-leb n 8 sl) refl) refl, bg, bn, e₁, e₂) refl)
+      let (j, e₂) = sets-into vars few 0 (a .sets) vs k (p .rising) h in (
+        j,
+        rw (
+          append-assoc (concat encodeRow (a .guards)) (concat encodeSet (a .sets)) vs,
+          one-in ACTION actionNamed (actionWithin true) always w (concat encodeRow (a .guards) ++ rest) i (action-kind a p) (eq-eqb (bits 27 8 w) 0 named)
+              (rw (bg, bn, le-leb g 8 gl, le-leb n 8 sl) refl) refl,
+          bg,
+          bn,
+          e₁,
+          e₂,
+        ) refl,
+      )
 
   pub action-codec : Codec (action vars true) encodeAction (ActionOk vars)
   action-codec = record { out = action-out; into = action-into; head = λ a vs p h. rw (action-kind a p) refl }

@@ -129,16 +129,16 @@ accepted ws p vs j h =
     bound (rows INIT 8 n u₁ k₁) _ h₁ (λ start u₂ k₂ e₂ h₂. bound (rows PRED 14 n u₂ k₂) _ h₂ (λ preds u₃ k₃ e₃ h₃.
     bound (many ACTION (action n) 16 u₃ k₃) _ h₃ (λ actions u₄ k₄ e₄ h₄. bound (many SETS (combination (length preds)) 8 u₄ k₄) _ h₄ (λ forbidden u₅ k₅ e₅ h₅.
     bound (end u₅ k₅) _ h₅ (λ z u₆ k₆ e₆ h₆.
-      let t₁ = ranges-out ws 0 gs u₁ k₁ e₁ in
-      let few = t₁ .good .1 .few in
-      let t₂ = rows-codec INIT 8 n few (omega arith) refl .out u₁ k₁ start u₂ k₂ e₂ in
-      let t₃ = rows-codec PRED 14 n few (omega arith) refl .out u₂ k₂ preds u₃ k₃ e₃ in
-      let t₄ = many-out ACTION (action n) (action-codec n few) (action-full n few) 16 u₃ k₃ actions u₄ k₄ e₄ in
-      let t₅ = many-out SETS (combination (length preds)) (literals-codec (length preds)) (literals-full (length preds)) 8 u₄ k₄ forbidden u₅ k₅ e₅ in
-      let last = end-out u₅ k₅ z u₆ k₆ e₆ in
-      let q : Program = record { ranges = gs; start = start; predicates = preds; actions = actions; forbidden = forbidden } in
-      let good : WellFormed q = record { some = t₁ .good .0; ranges = t₁ .good .1; start = t₂ .good; predicates = t₃ .good; actions = t₄ .good; forbidden = t₅ .good } in
-      subst (AcceptedOf ws) h₆ (record { words = assembled q ws u₁ u₂ u₃ u₄ u₅ (t₁ .words) (t₂ .words) (t₃ .words) (t₄ .words) (t₅ .words) last; good = good })))))))
+    let t₁ = ranges-out ws 0 gs u₁ k₁ e₁ in
+    let few = t₁ .good .1 .few in
+    let t₂ = rows-codec INIT 8 n few (omega arith) refl .out u₁ k₁ start u₂ k₂ e₂ in
+    let t₃ = rows-codec PRED 14 n few (omega arith) refl .out u₂ k₂ preds u₃ k₃ e₃ in
+    let t₄ = many-out ACTION (action n) (action-codec n few) (action-full n few) 16 u₃ k₃ actions u₄ k₄ e₄ in
+    let t₅ = many-out SETS (combination (length preds)) (literals-codec (length preds)) (literals-full (length preds)) 8 u₄ k₄ forbidden u₅ k₅ e₅ in
+    let last = end-out u₅ k₅ z u₆ k₆ e₆ in
+    let q : Program = record { ranges = gs; start = start; predicates = preds; actions = actions; forbidden = forbidden } in
+    let good : WellFormed q = record { some = t₁ .good .0; ranges = t₁ .good .1; start = t₂ .good; predicates = t₃ .good; actions = t₄ .good; forbidden = t₅ .good } in
+    subst (AcceptedOf ws) h₆ (record { words = assembled q ws u₁ u₂ u₃ u₄ u₅ (t₁ .words) (t₂ .words) (t₃ .words) (t₄ .words) (t₅ .words) last; good = good })))))))
 
 -- ---- the words of a well-formed program are read
 end-read : (k : ℕ) → end endWords k ≡ got 0 [] (suc k)
@@ -172,7 +172,7 @@ encoded p ok =
     let (k₂, e₂) = starts .into (p .start) w₃ k₁ (ok .start) f₃ in
     let (k₃, e₃) = predicates .into (p .predicates) w₄ k₂ (ok .predicates) f₄ in
     let (k₄, e₄) = many-into ACTION (action n) acts (action-full n few) (action-starts n few) 16 (p .actions) w₅ k₃ (ok .actions .few) (ok .actions .each) f₅
-      (no-action lits (p .forbidden) (ok .forbidden .each)) in
+    (no-action lits (p .forbidden) (ok .forbidden .each)) in
     let (k₅, e₅) = many-into SETS (combination lits) (literals-codec lits) (literals-full lits) (literals-starts lits) 8 (p .forbidden) endWords k₄ (ok .forbidden .few)
-      (ok .forbidden .each) refl refl in
+    (ok .forbidden .each) refl refl in
     (suc k₅, rw (encode-nested p, e₁, e₂, e₃, e₄, e₅, end-read k₅) refl)

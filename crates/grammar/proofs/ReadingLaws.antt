@@ -113,10 +113,10 @@ module _ {A : Type 0} {item : Reader A} {e : A → List ℕ} {P : A → Type 0} 
   times-out zero ws i xs vs j h = retaken {a = []} (record { words = refl; place = omega arith; good = (refl, tt) }) h
   times-out (suc n) ws i xs vs j h =
       bound (item ws i) _ h (λ x us k e₁ h₁. bound (times n item us k) _ h₁ (λ ys us′ k′ e₂ h₂.
-        let t = c .out ws i x us k e₁ in
-        let r = times-out n us k ys us′ k′ e₂ in
-        let m = joined t r in
-        retaken {a = x ∷ ys} (record { words = m .0; place = m .1; good = (ap suc (r .good .0), (t .good, r .good .1)) }) h₂))
+      let t = c .out ws i x us k e₁ in
+      let r = times-out n us k ys us′ k′ e₂ in
+      let m = joined t r in
+      retaken {a = x ∷ ys} (record { words = m .0; place = m .1; good = (ap suc (r .good .0), (t .good, r .good .1)) }) h₂))
 
   times-into : (xs : List A) (vs : List ℕ) (i : ℕ) → Each P xs → begins TERM vs ≡ false → (j : ℕ) × (times (length xs) item (concat e xs ++ vs) i ≡ got xs vs j)
   unfolding times concat
@@ -153,10 +153,10 @@ module _ {A : Type 0} (kind : ℕ) (item : Bool → Reader A) {e : A → List �
   unfolding concat
   more-taken {n} {ws} {i} g rec =
       bound (item true ws i) _ g (λ x us k e₁ h₁. bound (many kind item n us k) _ h₁ (λ ys us′ k′ e₂ h₂.
-        let t = c .out ws i x us k e₁ in
-        let r = rec us k ys us′ k′ e₂ in
-        let m = joined t r in
-        retaken {a = x ∷ ys} (record { words = m .0; place = m .1; good = record { few = omega (arith, r .good .few); each = (t .good, r .good .each) } }) h₂))
+      let t = c .out ws i x us k e₁ in
+      let r = rec us k ys us′ k′ e₂ in
+      let m = joined t r in
+      retaken {a = x ∷ ys} (record { words = m .0; place = m .1; good = record { few = omega (arith, r .good .few); each = (t .good, r .good .each) } }) h₂))
 
   pub many-out : (n : ℕ) (ws : List ℕ) (i : ℕ) (xs : List A) (vs : List ℕ) (j : ℕ) → many kind item n ws i ≡ got xs vs j → Taken (concat e) (Few n P) ws i xs vs j
   unfolding many

@@ -54,14 +54,14 @@ zero-coef = (leZ-yes tt, leZ-yes tt)
 coef-out : (v : ℕ) (ws : List ℕ) (i : ℕ) (c : ℤ) (vs : List ℕ) (j : ℕ) → coef v ws i ≡ got c vs j → Taken (encodeCoef v) Coef ws i c vs j
 coef-out v ws i c vs j h =
     ⊎-elim (λ p.
-      bound (term coefficientAllowed ws i) _ (p .1) (λ w us k e₁ g.
-      let o = one-out TERM (λ w. eqb (bits 23 16 w) 0) always coefficientAllowed ws i w us k e₁ in
-      let t = subst (λ (l : List ℕ). beginsTerm v l ≡ true) (o .words) (p .0) in
-      let (q, r) = and-true (eqb (kindOf w) TERM) (eqb (bits 27 24 w) v) t in
-      let (some, both) = and-true _ _ (o .allowed-is) in
-      let (low, high) = and-true _ _ both in
-      let same = coef-word v w (o .kind-is) (eqb-true (bits 27 24 w) v r) (eqb-true (bits 23 16 w) 0 (o .named-is)) (not-true _ some) in
-      retaken (one-taken (encodeCoef v) (coefficient w) o same (leZ-true _ _ low, leZ-true _ _ high)) g))
+    bound (term coefficientAllowed ws i) _ (p .1) (λ w us k e₁ g.
+    let o = one-out TERM (λ w. eqb (bits 23 16 w) 0) always coefficientAllowed ws i w us k e₁ in
+    let t = subst (λ (l : List ℕ). beginsTerm v l ≡ true) (o .words) (p .0) in
+    let (q, r) = and-true (eqb (kindOf w) TERM) (eqb (bits 27 24 w) v) t in
+    let (some, both) = and-true _ _ (o .allowed-is) in
+    let (low, high) = and-true _ _ both in
+    let same = coef-word v w (o .kind-is) (eqb-true (bits 27 24 w) v r) (eqb-true (bits 23 16 w) 0 (o .named-is)) (not-true _ some) in
+    retaken (one-taken (encodeCoef v) (coefficient w) o same (leZ-true _ _ low, leZ-true _ _ high)) g))
     (λ p. retaken {a = pos 0} (record { words = refl; place = omega arith; good = zero-coef }) (p .1)) (optional-got (beginsTerm v ws) h)
 
 -- ---- the coefficients from v on
@@ -70,17 +70,17 @@ pub coefs-out : (n v : ℕ) (ws : List ℕ) (i : ℕ) (cs : List ℤ) (vs : List
 unfolding coefs encodeCoefs
 coefs-out zero v ws i cs vs j h =
     ⊎-elim (λ p.
-      bound (term (λ w. false) ws i) _ (p .1) (λ w us k e₁ g.
-      let o = one-out TERM (λ w. eqb (bits 23 16 w) 0) always (λ w. false) ws i w us k e₁ in
-      let z : _≡_ {A = ℕ} 0 1 = cc (o .allowed-is) in
-      absurd (omega arith)))
+    bound (term (λ w. false) ws i) _ (p .1) (λ w us k e₁ g.
+    let o = one-out TERM (λ w. eqb (bits 23 16 w) 0) always (λ w. false) ws i w us k e₁ in
+    let z : _≡_ {A = ℕ} 0 1 = cc (o .allowed-is) in
+    absurd (omega arith)))
     (λ p. retaken {a = []} (record { words = refl; place = omega arith; good = (refl, tt) }) (p .1)) (optional-got (begins TERM ws) h)
 coefs-out (suc n) v ws i cs vs j h =
     bound (coef v ws i) _ h (λ c us k e₁ h₁. bound (coefs n (suc v) us k) _ h₁ (λ ds us′ k′ e₂ h₂.
-      let t = coef-out v ws i c us k e₁ in
-      let r = coefs-out n (suc v) us k ds us′ k′ e₂ in
-      let m = joined t r in
-      retaken {a = c ∷ ds} (record { words = m .0; place = m .1; good = (ap suc (r .good .0), (t .good, r .good .1)) }) h₂))
+    let t = coef-out v ws i c us k e₁ in
+    let r = coefs-out n (suc v) us k ds us′ k′ e₂ in
+    let m = joined t r in
+    retaken {a = c ∷ ds} (record { words = m .0; place = m .1; good = (ap suc (r .good .0), (t .good, r .good .1)) }) h₂))
 
 -- ---- the words of coefficients are read back
 module _ (v : ℕ) (c : ℤ) (ok : Coef c) (low : v < 16) where
@@ -113,10 +113,16 @@ module _ (v : ℕ) (c : ℤ) (ok : Coef c) (low : v < 16) where
   coef-into vs i true e h =
       let same : pos 0 ≡ c = ap (signed 16) (sym (eqb-true (unsigned 16 c) 0 e)) ∙ coef-back c ok in
       (i, rw (e, h) (ap (λ (z : ℤ). got z vs i) same))
-  coef-into vs i false e h =
-      (suc i, rw (e, term-kind, eq-eqb (bits 27 24 term-word) v term-variable,
-      one-in TERM (λ w. eqb (bits 23 16 w) 0) always coefficientAllowed term-word vs i term-kind (eq-eqb (bits 23 16 term-word) 0 term-named) refl (term-allowed e))
-      (ap (λ (z : ℤ). got z vs (suc i)) term-coefficient))
+  coef-into vs i false e h = (
+    suc i,
+    rw (
+      e,
+      term-kind,
+      eq-eqb (bits 27 24 term-word) v term-variable,
+      one-in TERM (λ w. eqb (bits 23 16 w) 0) always coefficientAllowed term-word vs i term-kind (eq-eqb (bits 23 16 term-word) 0 term-named) refl (term-allowed e),
+    )
+        (ap (λ (z : ℤ). got z vs (suc i)) term-coefficient),
+  )
 
 not-term : (v : ℕ) (vs : List ℕ) → begins TERM vs ≡ false → beginsTerm v vs ≡ false
 not-term v [] h = refl
@@ -186,23 +192,23 @@ module _ (vars : ℕ) (few : vars ≤ 8) where
   unfolding row
   row-out ws i r vs j h =
       bound (one ROW always always constantAllowed ws i) _ h (λ w us k e₁ h₁. bound (coefs vars 0 us k) _ h₁ (λ cs us′ k′ e₂ h₂.
-        let o = one-out ROW always always constantAllowed ws i w us k e₁ in
-        let t = coefs-out vars 0 us k cs us′ k′ e₂ in
-        let (low, high) = and-true (leZ (negsuc 999999) (constantOf w)) (leZ (constantOf w) (pos 1000000)) (o .allowed-is) in
-        let small : payload w < 2 ^ 28 = omega arith in
-        let first : w ≡ word ROW (unsigned 28 (constantOf w)) = rw (unsigned-signed 28 refl (payload w) small) (word-split w (o .kind-is)) in
-        let z = padded-same 0 (8 - vars) cs in
-        let l = t .good .0 in
-        retaken {a = rowOf vars (constantOf w) cs} (record {
-          words = o .words ∙ rw (← first, z) (ap (λ (l : List ℕ). w ∷ l) (t .words));
-          place = rw z (omega (arith, o .place, t .place));
-          good = record {
-            eight = simp (length-append, length-replicate) (omega arith);
-            small = each-append cs (replicate (8 - vars) (pos 0)) (t .good .1) (zeros-small (8 - vars));
-            absent = drop-at cs (replicate (8 - vars) (pos 0)) vars l;
-            constant = (leZ-true _ _ low, leZ-true _ _ high);
-          };
-        }) h₂))
+      let o = one-out ROW always always constantAllowed ws i w us k e₁ in
+      let t = coefs-out vars 0 us k cs us′ k′ e₂ in
+      let (low, high) = and-true (leZ (negsuc 999999) (constantOf w)) (leZ (constantOf w) (pos 1000000)) (o .allowed-is) in
+      let small : payload w < 2 ^ 28 = omega arith in
+      let first : w ≡ word ROW (unsigned 28 (constantOf w)) = rw (unsigned-signed 28 refl (payload w) small) (word-split w (o .kind-is)) in
+      let z = padded-same 0 (8 - vars) cs in
+      let l = t .good .0 in
+      retaken {a = rowOf vars (constantOf w) cs} (record {
+        words = o .words ∙ rw (← first, z) (ap (λ (l : List ℕ). w ∷ l) (t .words));
+        place = rw z (omega (arith, o .place, t .place));
+        good = record {
+          eight = simp (length-append, length-replicate) (omega arith);
+          small = each-append cs (replicate (8 - vars) (pos 0)) (t .good .1) (zeros-small (8 - vars));
+          absent = drop-at cs (replicate (8 - vars) (pos 0)) vars l;
+          constant = (leZ-true _ _ low, leZ-true _ _ high);
+        };
+      }) h₂))
 
   row-into : (r : Row) (vs : List ℕ) (i : ℕ) → RowOk vars r → begins TERM vs ≡ false → (j : ℕ) × (row vars (encodeRow r ++ vs) i ≡ got r vs j)
   unfolding row
@@ -218,9 +224,11 @@ module _ (vars : ℕ) (few : vars ≤ 8) where
       let a₂ : leZ (constantOf w) (pos 1000000) ≡ true = ap (λ (z : ℤ). leZ z (pos 1000000)) k ∙ le-leZ (r .constant) (pos 1000000) (p .constant .1) in
       let same : encodeCoefs 0 (r .coef) ≡ encodeCoefs 0 cs = ap (encodeCoefs 0) (sym whole) ∙ padded-same 0 (8 - vars) cs in
       let (j, e) = coefs-into 0 cs vs (suc i) (omega arith) (each-take vars (r .coef) (p .small)) h in
-      let e′ : coefs vars 0 (encodeCoefs 0 (r .coef) ++ vs) (suc i) ≡ got cs vs j = rw same (subst (λ (m : ℕ). coefs m 0 (encodeCoefs 0 cs ++ vs) (suc i) ≡ got cs vs j) l e) in
-      (j, rw (one-in ROW always always constantAllowed w (encodeCoefs 0 (r .coef) ++ vs) i (kind-word ROW (unsigned 28 (r .constant)) lt) refl refl (rw (a₁, a₂) refl), e′)
-      (ap (λ (x : Row). got x vs j) (row-same (rowOf vars (constantOf w) cs) r whole k)))
+      let e′ : coefs vars 0 (encodeCoefs 0 (r .coef) ++ vs) (suc i) ≡ got cs vs j = rw same (subst (λ (m : ℕ). coefs m 0 (encodeCoefs 0 cs ++ vs) (suc i) ≡ got cs vs j) l e) in (
+        j,
+        rw (one-in ROW always always constantAllowed w (encodeCoefs 0 (r .coef) ++ vs) i (kind-word ROW (unsigned 28 (r .constant)) lt) refl refl (rw (a₁, a₂) refl), e′)
+            (ap (λ (x : Row). got x vs j) (row-same (rowOf vars (constantOf w) cs) r whole k)),
+      )
 
   pub row-codec : Codec (row vars) encodeRow (RowOk vars)
   row-codec = record { out = row-out; into = row-into; head = λ r vs p h. rw (kind-word ROW (unsigned 28 (r .constant)) (constant-lt (p .constant))) refl }

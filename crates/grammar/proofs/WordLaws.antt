@@ -70,9 +70,11 @@ range-codec =
             high = signed-between 14 refl (bits 13 0 w) (omega arith);
             order = leZ-true _ _ (o .allowed-is);
           })) h);
-      into = λ a vs i p h.
-          (suc i, rw (one-in VAR always (λ w. true) ordered (range-bits a p) vs i (range-kind a p) refl refl
-          (subst (λ (g : Range). leZ (g .low) (g .high) ≡ true) (sym (range-back a p)) (le-leZ (a .low) (a .high) (p .order)))) (ap (λ (r : Range). got r vs (suc i)) (range-back a p)));
+      into = λ a vs i p h. (
+        suc i,
+        rw (one-in VAR always (λ w. true) ordered (range-bits a p) vs i (range-kind a p) refl refl
+            (subst (λ (g : Range). leZ (g .low) (g .high) ≡ true) (sym (range-back a p)) (le-leZ (a .low) (a .high) (p .order)))) (ap (λ (r : Range). got r vs (suc i)) (range-back a p)),
+      );
       head = λ a vs p h. rw (range-kind a p) refl;
     }
 
@@ -108,10 +110,12 @@ module _ (preds : ℕ) where
             let w = word SETS (a .0) in
             let small = p .payload in
             let high : bits 27 14 w ≡ bits 27 14 (a .0) = omega arith in
-            let low : bits 13 0 w ≡ bits 13 0 (a .0) = omega arith in
-            (suc i, rw (one-in SETS always (λ w. true) known w vs i (kind-word SETS (a .0) small) refl refl
-            (rw (high, low, lt-ltb (bits 27 14 (a .0)) (2 ^ preds) (p .false-known), lt-ltb (bits 13 0 (a .0)) (2 ^ preds) (p .true-known), eq-eqb _ 0 (p .apart)) refl))
-            (ap (λ (u : ℕ). got (record { 0 = u }) vs (suc i)) (payload-word SETS (a .0) small)));
+            let low : bits 13 0 w ≡ bits 13 0 (a .0) = omega arith in (
+              suc i,
+              rw (one-in SETS always (λ w. true) known w vs i (kind-word SETS (a .0) small) refl refl
+                  (rw (high, low, lt-ltb (bits 27 14 (a .0)) (2 ^ preds) (p .false-known), lt-ltb (bits 13 0 (a .0)) (2 ^ preds) (p .true-known), eq-eqb _ 0 (p .apart)) refl))
+                  (ap (λ (u : ℕ). got (record { 0 = u }) vs (suc i)) (payload-word SETS (a .0) small)),
+            );
         head = λ a vs p h. rw (kind-word SETS (a .0) (p .payload)) refl;
       }
 

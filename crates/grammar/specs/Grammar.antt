@@ -20,8 +20,8 @@ rangeOf w = record { low = signed 14 (bits 27 14 w); high = signed 14 (bits 13 0
 
 abbrev pub range : Bool → Reader Range
 range room = do
-    w ← one VAR always (λ w. room) (λ w. leZ (rangeOf w .low) (rangeOf w .high))
-    pure (rangeOf w)
+  w ← one VAR always (λ w. room) (λ w. leZ (rangeOf w .low) (rangeOf w .high))
+  pure (rangeOf w)
 
 abbrev pub between : ℤ → ℤ → ℤ → Bool
 between low high z = leZ low z && leZ z high
@@ -48,9 +48,9 @@ coef v = optional (beginsTerm v) (term coefficientAllowed >>= λ w. pure (coeffi
 unfoldable pub coefs : ℕ → ℕ → Reader (List ℤ)
 coefs zero v = optional (begins TERM) (term (λ w. false) >>= λ w. pure []) []
 coefs (suc n) v = do
-    c ← coef v
-    cs ← coefs n (suc v)
-    pure (c ∷ cs)
+  c ← coef v
+  cs ← coefs n (suc v)
+  pure (c ∷ cs)
 
 -- ROW: constant, from -1,000,000 to 1,000,000
 abbrev pub constantOf : ℕ → ℤ
@@ -64,38 +64,38 @@ rowOf vars constant cs = record { coef = cs ++ replicate (8 - vars) (pos 0); con
 
 unfoldable pub row : ℕ → Reader Row
 row vars = do
-    w ← one ROW always always constantAllowed
-    cs ← coefs vars 0
-    pure (rowOf vars (constantOf w) cs)
+  w ← one ROW always always constantAllowed
+  cs ← coefs vars 0
+  pure (rowOf vars (constantOf w) cs)
 
 -- INIT or PRED, and as many rows as it says
 unfoldable pub rows : ℕ → ℕ → ℕ → Reader (List Row)
 rows kind most vars = do
-    w ← one kind always (λ w. leb (payload w) most) always
-    times (payload w) (row vars)
+  w ← one kind always (λ w. leb (payload w) most) always
+  times (payload w) (row vars)
 
 -- SET and a row: an assignment to a variable from v on
 unfoldable pub assignment : ℕ → ℕ → Reader Assignment
 assignment vars v = do
-    w ← one SET always always (λ w. leb v (payload w) && ltb (payload w) vars)
-    r ← row vars
-    pure (record { variable = payload w; row = r })
+  w ← one SET always always (λ w. leb v (payload w) && ltb (payload w) vars)
+  r ← row vars
+  pure (record { variable = payload w; row = r })
 
 -- n assignments, variables strictly rising
 unfoldable pub sets : ℕ → ℕ → ℕ → Reader (List Assignment)
 sets vars zero v = pure []
 sets vars (suc n) v = do
-    s ← assignment vars v
-    ss ← sets vars n (suc (s .variable))
-    pure (s ∷ ss)
+  s ← assignment vars v
+  ss ← sets vars n (suc (s .variable))
+  pure (s ∷ ss)
 
 -- ACTION: guard rows 7..4, assignments 3..0, each 0 to 8
 unfoldable pub action : ℕ → Bool → Reader Action
 action vars room = do
-    w ← one ACTION (λ w. eqb (bits 27 8 w) 0) (λ w. room && leb (bits 7 4 w) 8 && leb (bits 3 0 w) 8) always
-    gs ← times (bits 7 4 w) (row vars)
-    ss ← sets vars (bits 3 0 w) 0
-    pure (record { guards = gs; sets = ss })
+  w ← one ACTION (λ w. eqb (bits 27 8 w) 0) (λ w. room && leb (bits 7 4 w) 8 && leb (bits 3 0 w) 8) always
+  gs ← times (bits 7 4 w) (row vars)
+  ss ← sets vars (bits 3 0 w) 0
+  pure (record { guards = gs; sets = ss })
 
 -- SETS: known-false predicates 27..14, known-true 13..0; each in the program, and none in both
 abbrev pub literalsAllowed : ℕ → ℕ → Bool
@@ -103,8 +103,8 @@ literalsAllowed preds w = ltb (bits 27 14 w) (2 ^ preds) && ltb (bits 13 0 w) (2
 
 abbrev pub combination : ℕ → Bool → Reader Literals
 combination preds room = do
-    w ← one SETS always (λ w. room) (literalsAllowed preds)
-    pure (literalsOf w)
+  w ← one SETS always (λ w. room) (literalsAllowed preds)
+  pure (literalsOf w)
 
 -- END, and nothing after it
 abbrev pub nothing : Reader ℕ
@@ -113,22 +113,22 @@ nothing (w ∷ ws) i = refused (Word i)
 
 unfoldable pub end : Reader ℕ
 end = do
-    w ← one END (λ w. eqb (payload w) 0) always always
-    nothing
+  w ← one END (λ w. eqb (payload w) 0) always always
+  nothing
 
 -- 1 to 8 VAR
 unfoldable pub ranges : Reader (List Range)
 ranges = do
-    r ← range true
-    rs ← many VAR range 7
-    pure (r ∷ rs)
+  r ← range true
+  rs ← many VAR range 7
+  pure (r ∷ rs)
 
 unfoldable pub program : Reader Program
 program = do
-    gs ← ranges
-    start ← rows INIT 8 (length gs)
-    preds ← rows PRED 14 (length gs)
-    actions ← many ACTION (action (length gs)) 16
-    forbidden ← many SETS (combination (length preds)) 8
-    e ← end
-    pure (record { ranges = gs; start = start; predicates = preds; actions = actions; forbidden = forbidden })
+  gs ← ranges
+  start ← rows INIT 8 (length gs)
+  preds ← rows PRED 14 (length gs)
+  actions ← many ACTION (action (length gs)) 16
+  forbidden ← many SETS (combination (length preds)) 8
+  e ← end
+  pure (record { ranges = gs; start = start; predicates = preds; actions = actions; forbidden = forbidden })

@@ -7,7 +7,6 @@ use Rattle.words.specs.declared.Refusal.{Refusal}
 use Rattle.words.specs.declared.Refusal.the-variants.{Word, Limit, Value}
 
 infixl 20 _>>=_
-
 -- what reading gives: a value, the words that are left and the index of the first of them; or the refusal that is due
 pub data Read (A : Type 0) : Type 0 where
   got : A → List ℕ → ℕ → Read A
@@ -56,9 +55,9 @@ module _ {A : Type 0} where
   unfoldable pub times : ℕ → Reader A → Reader (List A)
   times zero item = pure []
   times (suc n) item = do
-      x ← item
-      xs ← times n item
-      pure (x ∷ xs)
+    x ← item
+    xs ← times n item
+    pure (x ∷ xs)
 
   -- items as long as the next word is of the kind, at most n: an item is told whether it is within that limit
   unfoldable pub many : ℕ → (Bool → Reader A) → ℕ → Reader (List A)

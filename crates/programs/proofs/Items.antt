@@ -104,9 +104,11 @@ module _ (vars : ℕ) (few : vars ≤ 8) (ws : List ℕ) (at : ℕ) where
       action-turned {j} p = answer-at actionRead (λ y. y .next) action-next _ e p (λ a us q w.
           let (room, item) = within-limit ACTION (action vars) (drop i ws) i 16 k (action-full vars few) q in
           let o = action-codec vars few .out (drop i ws) i a us j item in
-          let rest = left-is ws (t .here) o in
-          (room, turned ACTION (action vars) 16 actionsFrom ws at (replicate 16 0) t h room (rw rest at item) (left-within ws (t .here) o)
-          (λ m. action-stored ns k i j a m (o .place))))
+          let rest = left-is ws (t .here) o in (
+            room,
+            turned ACTION (action vars) 16 actionsFrom ws at (replicate 16 0) t h room (rw rest at item) (left-within ws (t .here) o)
+                (λ m. action-stored ns k i j a m (o .place)),
+          ))
 
 -- ---- forbidden combinations
 literals-stored : (ls : List Literals) (k i j : ℕ) (l : Literals) (m : Read (List Literals)) → forbiddenFrom ls k i (after m (λ rest. pure (l ∷ rest))) ≡ forbiddenFrom (set ls k l) (k + 1) j m
@@ -135,6 +137,9 @@ module _ (preds : ℕ) (ws : List ℕ) (at : ℕ) where
       literals-turned {j} e =
           let (l, place, q) = head-taken SETS always (λ x. ltb k 8) (literalsAllowed preds) ws i i j e in
           let taken : combination preds (ltb k 8) (drop i ws) i ≡ got (literalsOf (getD ws i 0)) (drop (i + 1) ws) (i + 1) = rw q refl in
-          let (room, item) = within-limit SETS (combination preds) (drop i ws) i 8 k (literals-full preds) taken in
-          (room, l, turned SETS (combination preds) 8 forbiddenFrom ws at (replicate 8 noLiterals) t h room item (omega arith)
-          (literals-stored ls k i (i + 1) (literalsOf (getD ws i 0))))
+          let (room, item) = within-limit SETS (combination preds) (drop i ws) i 8 k (literals-full preds) taken in (
+            room,
+            l,
+            turned SETS (combination preds) 8 forbiddenFrom ws at (replicate 8 noLiterals) t h room item (omega arith)
+                (literals-stored ls k i (i + 1) (literalsOf (getD ws i 0))),
+          )

@@ -54,7 +54,7 @@ module _ (vars : ℕ) (few : vars ≤ 8) (ws tail : List ℕ) (free : begins TER
       let rest = concat encodeAction xs ++ tail in
       let here : drop i ws ≡ encodeAction x ++ rest = e ∙ append-assoc (encodeAction x) (concat encodeAction xs) tail in
       let next : drop (i + length (encodeAction x)) ws ≡ rest =
-        sym (drop-drop (length (encodeAction x)) i ws) ∙ ap (drop (length (encodeAction x))) here ∙ drop-append-seam (encodeAction x) rest in
+      sym (drop-drop (length (encodeAction x)) i ws) ∙ ap (drop (length (encodeAction x))) here ∙ drop-append-seam (encodeAction x) rest in
       action-at (i + length (encodeAction x)) xs k next (p .1) (le-of-suc-le-suc h)
 
 -- action k of an accepted program: its words stand at its place, and it is read there

@@ -68,15 +68,17 @@ module _ (ws : List ℕ) {x : Ranges} (e : x ≡ rangesFrom zeroRanges 0 0 (rang
   pub ranges-at : {j : ℕ} → x .next ≡ At j → (gs : List Range) × RangesAt ws x j gs
   ranges-at {j} h = answer-at (rangesFrom zeroRanges 0 0) (λ y. y .next) ranges-next (ranges ws 0) e h (λ gs us q w.
       let t = ranges-out ws 0 gs us j q in
-      let rest = left-is ws {i = 0} (omega arith) t in
-      (gs, record {
-        taken = rw rest at q;
-        place = t .place ∙ zero-add (length (concat encodeRange gs));
-        here = left-within ws {i = 0} (omega arith) t;
-        few = t .good .1 .few;
-        stored = ap (λ (y : Ranges). y .ranges) w;
-        counted = ap (λ (y : Ranges). y .count) w ∙ zero-add (length gs);
-      }))
+      let rest = left-is ws {i = 0} (omega arith) t in (
+        gs,
+        record {
+          taken = rw rest at q;
+          place = t .place ∙ zero-add (length (concat encodeRange gs));
+          here = left-within ws {i = 0} (omega arith) t;
+          few = t .good .1 .few;
+          stored = ap (λ (y : Ranges). y .ranges) w;
+          counted = ap (λ (y : Ranges). y .count) w ∙ zero-add (length gs);
+        },
+      ))
 
 -- the rows after INIT or PRED at index i, up to index j
 pub record CountedAt (ws : List ℕ) (kind most vars i : ℕ) (x : Counted) (j : ℕ) (rs : List Row) : Type 0 where
@@ -94,15 +96,17 @@ module _ (ws : List ℕ) (kind most vars i : ℕ) {x : Counted} (e : x ≡ count
   pub counted-at : vars ≤ 8 → most < 2 ^ 28 → eqb kind TERM ≡ false → i ≤ length ws → {j : ℕ} → x .next ≡ At j → (rs : List Row) × CountedAt ws kind most vars i x j rs
   counted-at few small other l {j} h = answer-at countedRead (λ y. y .next) counted-next (rows kind most vars (drop i ws) i) e h (λ rs us q w.
       let t = rows-codec kind most vars few small other .out (drop i ws) i rs us j q in
-      let rest = left-is ws l t in
-      (rs, record {
-        taken = rw rest at q;
-        place = t .place;
-        here = left-within ws l t;
-        few = t .good .few;
-        stored = ap (λ (y : Counted). y .rows) w;
-        counted = ap (λ (y : Counted). y .count) w;
-      }))
+      let rest = left-is ws l t in (
+        rs,
+        record {
+          taken = rw rest at q;
+          place = t .place;
+          here = left-within ws l t;
+          few = t .good .few;
+          stored = ap (λ (y : Counted). y .rows) w;
+          counted = ap (λ (y : Counted). y .count) w;
+        },
+      ))
 
 -- the image of parts that have been read
 abbrev pub imageWith : Ranges → Counted → Counted → List ℕ → ℕ → List Literals → ℕ → Loaded

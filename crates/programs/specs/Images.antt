@@ -109,10 +109,10 @@ pub record Rest : Type 0 where
 
 unfoldable pub rest : ℕ → ℕ → Reader Rest
 rest vars preds = do
-    xs ← many ACTION (action vars) 16
-    ls ← many SETS (combination preds) 8
-    e ← end
-    pure (record { actions = xs; forbidden = ls })
+  xs ← many ACTION (action vars) 16
+  ls ← many SETS (combination preds) 8
+  e ← end
+  pure (record { actions = xs; forbidden = ls })
 
 -- the image with what was read before and what follows
 abbrev pub restLoaded : Ranges → Counted → Counted → Read Rest → ℕ → Loaded

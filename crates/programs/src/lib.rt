@@ -9,13 +9,12 @@ ghost use Rattle.grammar.specs.Grammar.{rangeOf, range, ranges, rows, action, c
 ghost use Rattle.reader.specs.Results.{nextOf};
 ghost use Rattle.programs.specs.Calls.{read, check, actionPart, PartOf};
 ghost use Rattle.programs.specs.Images.{noRanges, rangesFrom, zeroRanges, countedRead, noActions, actionsFrom, noForbidden, forbiddenFrom, loaded, placeOf, rest, restLoaded};
-
+use reader::Next;
+use rows::Range;
+use rows::Row;
 use words::Kind;
 use words::Literals;
 use words::Refusal;
-use rows::Range;
-use rows::Row;
-use reader::Next;
 
 // The ranges from place 0 on, how many, and where reading goes on.
 pub struct Ranges {
@@ -181,7 +180,11 @@ fn literals_allowed(w: u32, preds: usize) -> bool
     let known_false = w / 16384 % 16384;
     let known_true = w % 16384;
     if known_false < most {
-        if known_true < most { known_false & known_true == 0 } else { false }
+        if known_true < most {
+            known_false & known_true == 0
+        } else {
+            false
+        }
     } else {
         false
     }

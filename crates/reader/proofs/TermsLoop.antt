@@ -145,14 +145,16 @@ module _ (ws : List ℕ) (base vars : ℕ) where
         let e = taken-term w (drop (suc i) ws) (base + i) kind named (vars - low) low vars all allowed in
         let place : base + (i + 1) ≡ suc (base + i) = omega arith in
         let step : stored c low (coefs (vars - low) low (drop i ws) (base + i)) ≡ stored (set c v x) (v + 1) (coefs (vars - (v + 1)) (v + 1) (drop (i + 1) ws) (base + (i + 1))) =
-          rw (cons, e, place, add-one i, add-one v) (stored-turn c low v x (coefs (vars - suc v) (suc v) (drop (suc i) ws) (suc (base + i))) (t .zeros) l) in
-        (u, record {
-          eight = length-set c v x ∙ t .eight;
-          room = omega arith;
-          here = omega arith;
-          zeros = zero-after c low v x (t .zeros) l;
-          same = sym step ∙ t .same;
-        })
+        rw (cons, e, place, add-one i, add-one v) (stored-turn c low v x (coefs (vars - suc v) (suc v) (drop (suc i) ws) (suc (base + i))) (t .zeros) l) in (
+          u,
+          record {
+            eight = length-set c v x ∙ t .eight;
+            room = omega arith;
+            here = omega arith;
+            zeros = zero-after c low v x (t .zeros) l;
+            same = sym step ∙ t .same;
+          },
+        )
 
   -- the row of the coefficients that were stored
   row-stored : (m : Read (List ℤ)) (c : List ℤ) (us : List ℕ) (j : ℕ) (k : ℤ) → vars ≤ 8 → ((cs : List ℤ) (vs : List ℕ) (i : ℕ) → m ≡ got cs vs i → length cs ≡ vars)
@@ -172,5 +174,5 @@ module _ (ws : List ℕ) (base vars : ℕ) where
   terms-ended {c} {low} {i} few t h k =
       let m = coefs vars 0 (drop 1 ws) (base + 1) in
       let e : stored c low (coefs (vars - low) low (drop i ws) (base + i)) ≡ got c (drop i ws) (base + i) =
-        rw (no-terms (vars - low) low (drop i ws) (base + i) h) (ap (λ (y : List ℤ). got y (drop i ws) (base + i)) (sets-zeros c low (vars - low) (t .zeros))) in
+      rw (no-terms (vars - low) low (drop i ws) (base + i) h) (ap (λ (y : List ℤ). got y (drop i ws) (base + i)) (sets-zeros c low (vars - low) (t .zeros))) in
       row-stored m c (drop i ws) (base + i) k few (λ cs vs j q. coefs-out vars 0 (drop 1 ws) (base + 1) cs vs j q .good .0) (sym (t .same) ∙ e)

@@ -8,10 +8,9 @@ ghost use Rattle.grammar.specs.Reading.{one, begins, times, refused, after, pur
 ghost use Rattle.grammar.specs.Grammar.{row, rowOf, coefs, between, coefficientAllowed, constantAllowed};
 ghost use Rattle.grammar.proofs.TermLaws.{termAllowed};
 ghost use Rattle.reader.specs.Results.{nextOf, rowRead, rowsRead, rowsFrom, zeroRow};
-
+use rows::Row;
 use words::Kind;
 use words::Refusal;
-use rows::Row;
 
 // Where reading goes on, or why it stops.
 pub enum Next {
@@ -38,7 +37,15 @@ pub fn begins(words: &[u32], at: usize, kind: Kind) -> bool
 }
 
 // The word at a place of a part, whose index in the whole list is `index`, and what the tests say of it: no unnamed bit, within the limits, allowed.
-pub fn read_word(part: &[u32], at: usize, index: usize, kind: Kind, named: bool, within: bool, allowed: bool) -> Next
+pub fn read_word(
+    part: &[u32],
+    at: usize,
+    index: usize,
+    kind: Kind,
+    named: bool,
+    within: bool,
+    allowed: bool,
+) -> Next
     requires { ⌜ (at < length (now part) → index + 1 < 2 ^ 64) ⌝ }
     ensures { λ r. ⌜ r ≡ nextOf (one (kind .0) (λ w. named) (λ w. within) (λ w. allowed) (drop at (now (part .entry))) index) ⌝ }
 {

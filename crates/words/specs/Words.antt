@@ -1,3 +1,15 @@
+-- Words of 32 bits and their fields.
+--
+-- bits       — bits hi..lo of a word
+-- kindOf     — the kind, bits 31 to 28
+-- payload    — the payload, bits 27 to 0
+-- word       — the word of a kind and a payload
+-- VAR .. END — the kinds
+-- signed     — the number that a field of so many bits stands for, in two's complement
+-- unsigned   — the bits of a number
+-- literals   — a set of literals from its two sets of predicates
+-- literalsOf — the set in a SETS word
+-- noLiterals — the empty set
 use mathlib.Core.Bool.{cond}
 use Prim.Native.Nat.{ℕ, suc, _+_, _-_, _*_, _/_, _%_, _^_}
 use lib.Dec.{ltb}
@@ -55,6 +67,10 @@ signed wide n = signedBy (2 ^ (wide - 1)) n
 abbrev pub unsigned : ℕ → ℤ → ℕ
 unsigned wide (pos n) = n
 unsigned wide (negsuc n) = 2 ^ wide - suc n
+
+-- a set of literals as the payload of SETS: known-false predicates in bits 27..14, known-true ones in 13..0
+abbrev pub literals : ℕ → ℕ → Literals
+literals known-false known-true = record { 0 = known-false % 2 ^ 14 * 2 ^ 14 + known-true % 2 ^ 14 }
 
 abbrev pub literalsOf : ℕ → Literals
 literalsOf w = record { 0 = payload w }

@@ -1,9 +1,8 @@
 // Words of 32 bits, their fields, and the refusals.
 ghost use mathlib.Core.Path.{_≡_};
-ghost use mathlib.Core.Bool.{_&&_};
 ghost use Prim.Native.Nat.{_+_, _*_, _<_, _≤_, _^_, _/_, _%_};
 ghost use lib.Dec.{eqb};
-ghost use Rattle.words.specs.Words.{bits, signed, signedBy, kindOf, payload, literalsOf, noLiterals};
+ghost use Rattle.words.specs.Words.{bits, signed, signedBy, kindOf, payload, literals, literalsOf};
 ghost use Rattle.words.specs.Refusals.{number, value};
 
 // The kind of a word, its bits 31 to 28.
@@ -25,6 +24,16 @@ impl Kind {
     pub const SET: Kind = Kind(7);
 
     pub const SETS: Kind = Kind(8);
+
+    pub const LEMMA: Kind = Kind(9);
+
+    pub const MULT: Kind = Kind(10);
+
+    pub const ORIGIN: Kind = Kind(11);
+
+    pub const EDGE: Kind = Kind(12);
+
+    pub const STEP: Kind = Kind(13);
 
     pub const END: Kind = Kind(15);
 
@@ -118,28 +127,48 @@ pub struct Literals(pub u32);
 impl Literals {
     pub const EMPTY: Literals = Literals(0);
 
+    // The set with these predicates known false and these known true, one bit for each of the 14.
+    pub fn new(known_false: u32, known_true: u32) -> Literals
+        ensures { λ r. ⌜ r ≡ literals «known_false» «known_true» ⌝ }
+    {
+        Literals(known_false % 16384 * 16384 + known_true % 16384)
+    }
+
+    // The set in a SETS word.
     pub fn of(word: u32) -> Literals
         ensures { λ r. ⌜ r ≡ literalsOf word ⌝ }
     {
-        Literals(word % 268435456)
+        Literals::new(word / 16384 % 16384, word % 16384)
     }
 }
 
 // Why a call refuses, with the number that is returned with the refusal.
 pub enum Refusal {
+    // 1: a lent list is too short; 0 for the graph or the view, 1 for the path.
     Short(usize),
+    // 2: a program word is missing, of the wrong kind, after END, or has an unnamed bit; its index.
     Word(usize),
+    // 3: one too many, or a count too high; the word's index.
     Limit(usize),
+    // 4: a value that is not allowed; the word's index.
     Value(usize),
+    // 5: a lemma word that is missing or ill formed; its index.
     Lemma(usize),
+    // 6: a 513th lemma; its index.
     Lemmas(usize),
+    // 7: a 513th node.
     Nodes,
+    // 8: no such action, lemma or node; its number.
     Absent(usize),
+    // 9: a state of the wrong length; that length.
     Length(usize),
+    // 10: a state value off its range; the lowest such variable.
     State(usize),
+    // 11: a lemma's sum leaves 64 bits; the lemma's number.
     Sum(usize),
 }
 
+// The refusal's number in the document's table.
 pub fn number_of(r: Refusal) -> u32
     ensures { λ n. ⌜ n ≡ number r ⌝ }
 {
@@ -155,5 +184,24 @@ pub fn number_of(r: Refusal) -> u32
         Refusal::Length(_) => 9,
         Refusal::State(_) => 10,
         Refusal::Sum(_) => 11,
+    }
+}
+
+// The number that is returned with the refusal.
+pub fn value_of(r: Refusal) -> usize
+    ensures { λ n. ⌜ n ≡ value r ⌝ }
+{
+    match r {
+        Refusal::Short(n) => n,
+        Refusal::Word(n) => n,
+        Refusal::Limit(n) => n,
+        Refusal::Value(n) => n,
+        Refusal::Lemma(n) => n,
+        Refusal::Lemmas(n) => n,
+        Refusal::Nodes => 512,
+        Refusal::Absent(n) => n,
+        Refusal::Length(n) => n,
+        Refusal::State(n) => n,
+        Refusal::Sum(n) => n,
     }
 }

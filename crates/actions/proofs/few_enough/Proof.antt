@@ -1,6 +1,5 @@
 use mathlib.Core.Path.{refl}
 use borrow.Author.Tests.{le-leb, lt-leb}
-
 use borrow.Author.Needs.{needs}
 use Rattle.actions.proofs.few_enough.Statement.{statement}
 use Rattle.actions.proofs.few_enough.Tie as tie

@@ -1,5 +1,4 @@
 use mathlib.Core.Path.{refl, _∙_}
-
 use borrow.Author.Needs.{needs}
 use Rattle.actions.proofs.with_sets.Statement.{statement}
 use Rattle.actions.proofs.with_sets.Tie as tie

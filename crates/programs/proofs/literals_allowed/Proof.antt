@@ -4,7 +4,6 @@ use native.Mathlib.Omega.{arith}
 use borrow.Author.Tests.{lt-ltb, le-ltb}
 use Rattle.words.specs.Words.{bits}
 use Rattle.programs.proofs.Parts.{one-shifted}
-
 use borrow.Author.Needs.{needs}
 use Rattle.programs.proofs.literals_allowed.Statement.{statement}
 use Rattle.programs.proofs.literals_allowed.Tie as tie

@@ -1,4 +1,3 @@
-
 use Rattle.programs.proofs.Whole.{start-refused, predicates-refused}
 use mathlib.Core.Path.{_≡_, refl, sym, ap, _∙_}
 use mathlib.Core.List.{List}
