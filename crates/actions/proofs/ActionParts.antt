@@ -14,7 +14,7 @@ use Rattle.grammar.specs.Reading.{Read, got, refused, one, always, after, pure,
 use Rattle.grammar.specs.Programs.{Assignment, Action}
 use Rattle.grammar.specs.Grammar.{row, sets, action}
 use borrow.Author.Tests.{leb-true}
-use Rattle.integers.specs.Tests.{and-true}
+use Rattle.integers.proofs.Tests.{and-true}
 use Rattle.grammar.proofs.ReadingLaws.{one-out, times-codec}
 use Rattle.grammar.proofs.RowLaws.{row-codec}
 use Rattle.grammar.proofs.ActionLaws.{actionNamed, actionWithin}

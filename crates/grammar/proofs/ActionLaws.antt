@@ -8,7 +8,7 @@ use lib.Dec.{eqb, ltb, leb}
 use lib.Bits.{bitAnd}
 use lib.ListN.{length, length-append}
 use borrow.Author.Tests.{eqb-true, eq-eqb, ltb-true, lt-ltb, leb-true, le-leb}
-use Rattle.integers.specs.Tests.{and-true}
+use Rattle.integers.proofs.Tests.{and-true}
 use Rattle.words.specs.Words.{bits, kindOf, payload, word, literalsOf, TERM, ACTION, SET, SETS}
 use Rattle.words.specs.declared.Literals.{Literals}
 use Rattle.words.proofs.Laws.{kind-word, payload-word, word-split}

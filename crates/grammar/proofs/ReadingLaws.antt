@@ -9,7 +9,7 @@ use native.Mathlib.Numerals.{add-one}
 use lib.Dec.{eqb}
 use lib.ListN.{length, length-append}
 use borrow.Author.Tests.{eqb-true, eq-eqb}
-use Rattle.integers.specs.Tests.{and-true}
+use Rattle.integers.proofs.Tests.{and-true}
 use Rattle.words.specs.Words.{kindOf, TERM}
 use Rattle.words.specs.declared.Refusal.{Refusal}
 use Rattle.grammar.specs.Reading.{Read, Reader, got, refused, pure, after, _>>=_, due, one, begins, optional, times, many}

@@ -8,11 +8,11 @@ use native.Mathlib.Omega.{arith}
 use lib.Dec.{eqb}
 use lib.IntN.{ℤ, pos, negsuc}
 use lib.Signed.{_≤ℤ_, leZ, leZ-yes}
-use Rattle.integers.specs.Laws.{le-trans}
+use Rattle.integers.proofs.Laws.{le-trans}
 use lib.ListN.{length, length-append, replicate, take, drop, take-append-drop, length-replicate}
 use lib.Seq.{drop-at, length-take-le}
 use borrow.Author.Tests.{eqb-true, eqb-false, eq-eqb, ne-eqb}
-use Rattle.integers.specs.Tests.{leZ-true, le-leZ, and-true, not-true}
+use Rattle.integers.proofs.Tests.{leZ-true, le-leZ, and-true, not-true}
 use Rattle.words.specs.Words.{bits, kindOf, payload, word, signed, unsigned, ROW, TERM}
 use Rattle.words.proofs.Laws.{kind-word, payload-word, word-split, signed-unsigned, unsigned-signed, unsigned-lt}
 use Rattle.rows.specs.declared.Row.{Row}

@@ -8,7 +8,7 @@ use lib.Dec.{eqb, ltb, leb}
 use lib.IntN.{ℤ, pos}
 use lib.ListN.{replicate}
 use borrow.Author.Tests.{eqb-true, eqb-false, eq-eqb, ne-eqb, leb-true, leb-false, le-leb, lt-leb, ltb-true, lt-ltb}
-use Rattle.integers.specs.Tests.{and-true}
+use Rattle.integers.proofs.Tests.{and-true}
 use Rattle.words.specs.Words.{bits, kindOf, TERM}
 use Rattle.words.specs.declared.Refusal.the-variants.{Word, Value}
 use Rattle.grammar.specs.Reading.{Read, got, refused, due, one, begins, after, pure}

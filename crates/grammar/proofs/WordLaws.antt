@@ -10,7 +10,7 @@ use lib.IntN.{ℤ, pos, negsuc}
 use lib.Signed.{_≤ℤ_, leZ}
 use lib.ListN.{length}
 use borrow.Author.Tests.{eqb-true, eq-eqb, ltb-true, lt-ltb}
-use Rattle.integers.specs.Tests.{leZ-true, le-leZ, and-true, not-true}
+use Rattle.integers.proofs.Tests.{leZ-true, le-leZ, and-true, not-true}
 use Rattle.words.specs.Words.{bits, kindOf, payload, word, signed, unsigned, literalsOf, VAR, ROW, TERM, SETS}
 use Rattle.words.specs.declared.Literals.{Literals}
 use Rattle.words.proofs.Laws.{kind-word, payload-word, word-split, signed-unsigned, unsigned-signed, unsigned-lt, signed-between}

@@ -1,3 +1,8 @@
+-- The words of a program. Reading them gives the program back, and an accepted list is the words of what was read (proofs/ProgramLaws).
+--
+-- concat          — the words of each, one after the other
+-- encodeRange .. encodeLiterals — the words of each part
+-- encode          — the words of a program
 use mathlib.Core.List.{List, [], _∷_, _++_}
 use mathlib.Core.Bool.{cond}
 use Prim.Native.Nat.{ℕ, suc, _+_, _*_, _^_}

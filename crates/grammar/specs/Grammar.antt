@@ -1,3 +1,18 @@
+-- The grammar of a program, with the refusal that is due at each word: 2 before 3 before 4, and the first bad word decides.
+--
+-- rangeOf, range                 — a variable's range, VAR
+-- between                        — a number from one to another
+-- coefficient, coefficientAllowed, term, beginsTerm — TERM
+-- coef, coefs                    — a row's coefficients, by rising variable
+-- constantOf, constantAllowed    — ROW
+-- rowOf, row                     — a row
+-- rows                           — INIT or PRED and its rows
+-- assignment, sets               — SET and a row; an action's assignments
+-- action                         — an action
+-- literalsAllowed, combination   — a forbidden combination, SETS
+-- nothing, end                   — END, and nothing after it
+-- ranges                         — 1 to 8 VAR
+-- program                        — the whole
 use mathlib.Core.Bool.{Bool, true, false, cond, _&&_, not}
 use mathlib.Core.List.{List, [], _∷_, _++_}
 use Prim.Native.Nat.{ℕ, zero, suc, _-_, _^_}

@@ -1,3 +1,8 @@
+-- Programs as plain values.
+--
+-- Assignment — a variable and the row of its new value
+-- Action     — guard rows and assignments
+-- Program    — ranges, start rows, predicates, actions and forbidden combinations
 use mathlib.Core.List.{List}
 use Prim.Native.Nat.{ℕ}
 use Rattle.words.specs.declared.Literals.{Literals}

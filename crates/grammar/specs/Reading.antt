@@ -1,3 +1,17 @@
+-- Readers: functions from the words that are left, and the index of the first of them, to a value or the refusal that is due.
+--
+-- Read     — what reading gives
+-- Reader   — a reader of values of a type
+-- pure     — reads nothing
+-- due      — the refusal, unless the test holds
+-- after    — goes on with what was read
+-- _>>=_    — one reader after another; `do` is sugar for it
+-- one      — one word of a kind, by three tests
+-- always   — the test that every word passes
+-- begins   — is the next word of this kind?
+-- optional — an item, or a value where it is absent
+-- times    — exactly n items
+-- many     — items as long as the next word is of a kind, at most n
 use mathlib.Core.Bool.{Bool, true, false, cond, _&&_}
 use mathlib.Core.List.{List, [], _∷_}
 use Prim.Native.Nat.{ℕ, zero, suc}

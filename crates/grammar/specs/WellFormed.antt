@@ -1,3 +1,11 @@
+-- Well-formed programs: those that have words. Every accepted program is one (proofs/ProgramLaws).
+--
+-- Between    — a number from one to another
+-- Each       — every element of a list is good
+-- Few        — at most n, each good
+-- RangeOk, RowOk, SetOk, ActionOk, LiteralsOk — each part within the limits
+-- Rising     — assignments to rising variables
+-- WellFormed — the whole
 use mathlib.Core.Path.{_≡_}
 use mathlib.Core.List.{List, [], _∷_}
 use Prim.Native.Nat.{ℕ, suc, _-_, _^_, _≤_, _<_}

@@ -1,4 +1,14 @@
--- What the readers of a program's parts give, and the image of a program that the calls work on.
+-- What the readers of a program's parts give, and the image of a program that the calls work on. Only contracts of functions within the
+-- project cite these.
+--
+-- zeroRanges, noRanges, rangesFrom      — ranges
+-- countedRead                           — rows after INIT or PRED
+-- places, noActions, actionsFrom        — where actions begin
+-- noForbidden, forbiddenFrom            — forbidden combinations
+-- firstAction                           — the index of a program's first action
+-- imageOf, noImage, loaded              — the image of a program
+-- placeOf                               — the index where reading goes on
+-- Rest, rest, restLoaded                — what follows the predicates, and the image with it
 use mathlib.Core.List.{List, [], _∷_, _++_}
 use Prim.Native.Nat.{ℕ, _+_}
 use lib.IntN.{ℤ, pos}

@@ -12,7 +12,7 @@ use lib.IntN.{ℤ, pos}
 use lib.ListN.{length, getD, set, take, drop, replicate, length-set, length-replicate}
 use lib.Seq.{drop-cons, sets, sets-eq, set-getD, getD-set-other}
 use borrow.Author.Tests.{eqb-true, leb-true, ltb-true}
-use Rattle.integers.specs.Tests.{and-true}
+use Rattle.integers.proofs.Tests.{and-true}
 use Rattle.words.specs.Words.{bits, kindOf, TERM}
 use Rattle.words.specs.declared.Refusal.{Refusal}
 use Rattle.rows.specs.declared.Row.{Row}

@@ -1,3 +1,11 @@
+-- What the readers of words and rows give, by what the grammar says. Only contracts of functions within the project cite these.
+--
+-- nextOf   — where reading goes on, or why it stops
+-- zeroRow  — the row that is always 0
+-- rowRead  — a row and where reading goes on
+-- zeroRows — fourteen of them
+-- rowsFrom — rows put behind those that are stored
+-- rowsRead — rows from place 0 on
 use mathlib.Core.List.{List}
 use Prim.Native.Nat.{ℕ}
 use lib.IntN.{ℤ, pos}

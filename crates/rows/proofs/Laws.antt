@@ -15,8 +15,8 @@ use lib.Seq.{drop-cons}
 use lib.Signed.{ltZ, _≤ℤ_, ≤ℤ-refl, leZ-yes}
 use mir.Syntax.{w64}
 use mir.Val.{SFits}
-use Rattle.integers.specs.Int.{up, dn, var, num, _⊕_, _⊗_, ⊖, le-in, equal, below, law}
-use Rattle.integers.specs.Laws.{Within, sum, product, within-fits, zero-within, add-le, mul-le, mul-ge}
+use Rattle.integers.proofs.Int.{up, dn, var, num, _⊕_, _⊗_, ⊖, le-in, equal, below, law}
+use Rattle.integers.proofs.Laws.{Within, sum, product, within-fits, zero-within, add-le, mul-le, mul-ge}
 use Rattle.rows.specs.declared.Row.{Row}
 use Rattle.rows.specs.declared.Range.{Range}
 use Rattle.rows.specs.Rows.{dot, rowValue, Holds, negated, endUnder, ends, largestValue, InRanges, in-none, in-one, small, maxCoef, maxConst, maxState, Small, zeroRange, smallRanges}

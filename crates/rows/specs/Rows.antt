@@ -21,7 +21,7 @@ use Prim.Native.Nat.{ℕ}
 use lib.IntN.{ℤ, pos, negsuc, negℤ, _+ℤ_, _-ℤ_, _*ℤ_}
 use lib.Signed.{_≤ℤ_}
 use lib.ListN.{getD}
-use Rattle.integers.specs.Laws.{Within}
+use Rattle.integers.proofs.Laws.{Within}
 use Rattle.rows.specs.declared.Row.{Row}
 use Rattle.rows.specs.declared.Range.{Range}
 

@@ -8,7 +8,7 @@ use lib.Dec.{ltb}
 use lib.IntN.{ℤ, pos, negsuc, _-ℤ_}
 use lib.Signed.{_≤ℤ_}
 use borrow.Author.Tests.{ltb-true, ltb-false, lt-ltb, le-ltb}
-use Rattle.integers.specs.Int.{var, num, _⊕_, ⊖, up, dn, le-in, le-out, equal}
+use Rattle.integers.proofs.Int.{var, num, _⊕_, ⊖, up, dn, le-in, le-out, equal}
 use Rattle.words.specs.Words.{bits, kindOf, payload, word, signedBy, signed, unsigned}
 
 pub kind-word : (k p : ℕ) → p < 2 ^ 28 → kindOf (word k p) ≡ k

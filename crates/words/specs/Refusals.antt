@@ -1,3 +1,7 @@
+-- The table of refusals: each one's number, and the number that is returned with it.
+--
+-- number — the refusal's number
+-- value  — the number returned with it
 use Prim.Native.Nat.{ℕ}
 use Rattle.words.specs.declared.Refusal.{Refusal}
 use Rattle.words.specs.declared.Refusal.the-variants.{Short, Word, Limit, Value, Lemma, Lemmas, Nodes, Absent, Length, State, Sum}

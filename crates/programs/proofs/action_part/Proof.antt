@@ -47,7 +47,7 @@ mul-result : tie.Need-mul-result
 mul-result c = let f = span-of (c .before) in omega arith
 
 sub-result : tie.Need-sub-result
-sub-result c = span-of (c .before) .0
+sub-result c = let f = span-of (c .before) in omega arith
 
 part-result-start : tie.Need-part-result-start
 part-result-start c = let f = span-of (c .before) in omega arith

@@ -4,7 +4,7 @@ use lib.ListN.{getD, set, drop}
 use mir.Syntax.{w64}
 use mir.Val.{SFits}
 use mir.Facts.{toZ-ofZ}
-use Rattle.integers.specs.Tests.{not-true, not-false}
+use Rattle.integers.proofs.Tests.{not-true, not-false}
 use Rattle.grammar.specs.Reading.{one, many}
 use Rattle.grammar.specs.Grammar.{rangeOf, ranges}
 use Rattle.grammar.proofs.WordLaws.{ordered}

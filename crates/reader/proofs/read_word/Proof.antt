@@ -2,7 +2,7 @@ use native.Mathlib.Omega.{arith}
 use Rattle.reader.proofs.Laws.{begins-true}
 use mathlib.Core.Path.{refl, sym, _∙_}
 use lib.ListN.{drop}
-use Rattle.integers.specs.Tests.{not-true, not-false}
+use Rattle.integers.proofs.Tests.{not-true, not-false}
 use Rattle.reader.proofs.Laws.{next-no, next-yes}
 use borrow.Author.Needs.{needs}
 use Rattle.reader.proofs.read_word.Statement.{statement}

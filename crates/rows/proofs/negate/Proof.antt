@@ -9,9 +9,9 @@ use lib.IntN.{ℤ, pos, negsuc, negℤ, _-ℤ_, +ℤ-idl}
 use mir.Syntax.{w64}
 use mir.Val.{SFits}
 use mir.Facts.{toZ-ofZ}
-use Rattle.integers.specs.Int.{var, num, _⊕_, ⊖, equal}
-use Rattle.integers.specs.Laws.{Within, opposite, sum, literal, within-fits, within-weaken}
-use Rattle.integers.specs.Fill.{Filled, filled-none, filled-next, filled-all}
+use Rattle.integers.proofs.Int.{var, num, _⊕_, ⊖, equal}
+use Rattle.integers.proofs.Laws.{Within, opposite, sum, literal, within-fits, within-weaken}
+use Rattle.integers.proofs.Fill.{Filled, filled-none, filled-next, filled-all}
 use Rattle.rows.specs.Rows.{maxConst}
 use Rattle.rows.proofs.negate.Statement.{statement}
 use Rattle.rows.proofs.negate.Tie as tie

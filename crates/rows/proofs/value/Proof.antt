@@ -8,7 +8,7 @@ use lib.IntN.{pos}
 use mir.Syntax.{w64}
 use mir.Val.{toZ}
 use mir.Facts.{toZ-ofZ}
-use Rattle.integers.specs.Laws.{within-fits}
+use Rattle.integers.proofs.Laws.{within-fits}
 use Rattle.rows.proofs.Laws.{Partial, Turn, started, turn, ended}
 use Rattle.rows.proofs.value.Statement.{statement}
 use Rattle.rows.proofs.value.Tie as tie

@@ -7,7 +7,7 @@ use lib.IntN.{ℤ, pos}
 use mir.Syntax.{w64}
 use mir.Val.{toZ}
 use mir.Facts.{toZ-pos, toZ-ofZ}
-use Rattle.integers.specs.Int.{num, _⊕_, ⊖, fitting}
+use Rattle.integers.proofs.Int.{num, _⊕_, ⊖, fitting}
 use Rattle.words.proofs.signed_by.Statement.{statement}
 use Rattle.words.proofs.signed_by.Tie as tie
 

@@ -7,7 +7,7 @@ use lib.Dec.{T}
 use lib.IntN.{ℤ, pos, negsuc, negℤ}
 use lib.Signed.{ltZ, leZ, _<ℤ_, _≤ℤ_, ltZ-yes, leZ-yes, ltZ-no, clashℤ}
 use borrow.Author.Tests.{leb-false, lt-ltb}
-use Rattle.integers.specs.Laws.{Within}
+use Rattle.integers.proofs.Laws.{Within}
 
 holds : {b : Bool} → b ≡ true → T b
 holds e = subst T (sym e) tt

@@ -9,7 +9,7 @@ use lib.Signed.{_≤ℤ_, _<ℤ_, leZ, leZ-yes}
 use lib.Dec.{T}
 use mir.Syntax.{Width}
 use mir.Val.{SFits, hbits}
-use Rattle.integers.specs.Int.{up, dn, var, num, _⊕_, _⊗_, ⊖, le-in, lt-in, eq-in, fits-in, fits-out, neg-law, mul-law, one-zero, equal, below, strictly}
+use Rattle.integers.proofs.Int.{up, dn, var, num, _⊕_, _⊗_, ⊖, le-in, lt-in, eq-in, fits-in, fits-out, neg-law, mul-law, one-zero, equal, below, strictly}
 
 -- ring equations
 pub neg-mul : (a b : ℤ) → negℤ a *ℤ b ≡ negℤ (a *ℤ b)
