@@ -1,0 +1,4 @@
+pub mod Worked
+pub mod Loops
+pub mod Trying
+pub mod Sizes

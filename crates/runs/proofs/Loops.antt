@@ -1,0 +1,73 @@
+-- One turn of each loop over a state.
+use mathlib.Core.Path.{_≡_, refl, sym, ap, _∙_}
+use mathlib.Core.Bool.{true, false, cond, _&&_}
+use mathlib.Core.List.{List, [], _∷_, _++_, map}
+use Prim.Native.Nat.{ℕ, zero, suc, _+_, _-_, _≤_, _<_}
+use native.Mathlib.Omega.{arith}
+use native.Mathlib.Numerals.{add-one}
+use native.Mathlib.Nat.{not-suc-le-zero, le-of-suc-le-suc}
+use lib.IntN.{ℤ, pos}
+use lib.Signed.{leZ, ltZ}
+use lib.ListN.{length, getD, set, take, drop, replicate, length-take, length-set, drop-of-length-le}
+use lib.Seq.{drop-cons, take-suc, set-at, length-take-le, getD-take, append-snoc, take-length, drop-length}
+use Rattle.integers.proofs.Tests.{ltZ-true, ltZ-false, lt-leZ, le-leZ}
+use Rattle.rows.specs.declared.Row.{Row}
+use Rattle.rows.specs.declared.Range.{Range}
+use Rattle.rows.specs.Rows.{zeroRange}
+use Rattle.runs.specs.Runs.{holds, within, lowestOff, allHold}
+
+abbrev pub noRow : Row
+noRow = record { coef = []; constant = pos 0 }
+
+-- ---- a list copied from the front over another
+pub copied-next : (p : List ℤ) (y : ℤ) (ys : List ℤ) (v : ℕ) (s : List ℤ) → v < length s → p ≡ take v s ++ y ∷ ys → set p v (getD s v (pos 0)) ≡ take (v + 1) s ++ ys
+copied-next p y ys v s h e =
+    ap (λ (l : List ℤ). set l v (getD s v (pos 0))) e ∙ set-at (take v s) y ys (getD s v (pos 0)) v (length-take-le v s (omega arith))
+    ∙ rw (add-one v, take-suc s v (pos 0) h) (sym (append-snoc (take v s) (getD s v (pos 0)) ys))
+
+pub zeros-cons : (n v : ℕ) → v < n → replicate (n - v) (pos 0) ≡ pos 0 ∷ replicate (n - (v + 1)) (pos 0)
+zeros-cons n v h = let e : n - v ≡ suc (n - (v + 1)) = omega arith in rw e refl
+
+-- ---- the lowest value that is off its range
+module _ (gs : List Range) (xs : List ℤ) (v : ℕ) (l : v < length gs) (m : v < length xs) where
+  lowest-here : lowestOff (drop v gs) (drop v xs) ≡ cond (within (getD gs v zeroRange) (getD xs v (pos 0))) (suc (lowestOff (drop (suc v) gs) (drop (suc v) xs))) 0
+  unfolding lowestOff
+  lowest-here = rw (drop-cons gs v zeroRange l, drop-cons xs v (pos 0) m) refl
+
+  pub lowest-on : v + lowestOff (drop v gs) (drop v xs) ≡ lowestOff gs xs → within (getD gs v zeroRange) (getD xs v (pos 0)) ≡ true
+      → (v + 1) + lowestOff (drop (v + 1) gs) (drop (v + 1) xs) ≡ lowestOff gs xs
+  lowest-on e h = let f = rw h at lowest-here in rw (add-one v) (omega arith)
+
+  pub lowest-stop : v + lowestOff (drop v gs) (drop v xs) ≡ lowestOff gs xs → within (getD gs v zeroRange) (getD xs v (pos 0)) ≡ false → v ≡ lowestOff gs xs
+  lowest-stop e h = let f = rw h at lowest-here in omega arith
+
+pub lowest-end : (gs : List Range) (xs : List ℤ) (v : ℕ) → length gs ≤ v → v + lowestOff (drop v gs) (drop v xs) ≡ lowestOff gs xs → v ≡ lowestOff gs xs
+unfolding lowestOff
+lowest-end gs xs v h e = let f : lowestOff (drop v gs) (drop v xs) ≡ 0 = rw (drop-of-length-le gs {i = v} h) refl in omega arith
+
+-- ---- all of some rows
+module _ (rs : List Row) (x : List ℤ) (k : ℕ) (l : k < length rs) where
+  all-here : allHold (drop k rs) x ≡ (holds (getD rs k noRow) x && allHold (drop (suc k) rs) x)
+  unfolding allHold
+  all-here = rw (drop-cons rs k noRow l) refl
+
+  pub all-on : allHold (drop k rs) x ≡ allHold rs x → holds (getD rs k noRow) x ≡ true → allHold (drop (k + 1) rs) x ≡ allHold rs x
+  all-on e h = rw (add-one k) (sym (rw h at all-here) ∙ e)
+
+  pub all-stop : allHold (drop k rs) x ≡ allHold rs x → holds (getD rs k noRow) x ≡ false → false ≡ allHold rs x
+  all-stop e h = sym (rw h at all-here) ∙ e
+
+pub all-end : (rs : List Row) (x : List ℤ) (k : ℕ) → length rs ≤ k → allHold (drop k rs) x ≡ allHold rs x → true ≡ allHold rs x
+unfolding allHold
+all-end rs x k h e = let f : allHold (drop k rs) x ≡ true = rw (drop-of-length-le rs {i = k} h) refl in sym f ∙ e
+
+pub below-fails : (z : ℤ) → ltZ z (pos 0) ≡ true → leZ (pos 0) z ≡ false
+below-fails z h = lt-leZ (pos 0) z (ltZ-true z (pos 0) h)
+
+pub above-holds : (z : ℤ) → ltZ z (pos 0) ≡ false → leZ (pos 0) z ≡ true
+above-holds z h = le-leZ (pos 0) z (ltZ-false z (pos 0) h)
+
+pub getD-mapped : (f : Row → ℤ) (rs : List Row) (k : ℕ) → k < length rs → getD (map f rs) k (pos 0) ≡ f (getD rs k noRow)
+getD-mapped f [] k h = absurd (not-suc-le-zero h)
+getD-mapped f (r ∷ rs) zero h = refl
+getD-mapped f (r ∷ rs) (suc k) h = getD-mapped f rs k (le-of-suc-le-suc h)

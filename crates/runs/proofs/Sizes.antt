@@ -1,0 +1,168 @@
+-- The numbers of an accepted program are small enough to compute with, and its parts stand in the arrays of its image.
+use mathlib.Core.Path.{_≡_, refl, sym, ap, _∙_, subst}
+use mathlib.Core.List.{List, [], _∷_, _++_, map}
+use Prim.Native.Nat.{ℕ, zero, suc, _+_, _-_, _*_, _≤_, _<_}
+use native.Mathlib.Omega.{arith}
+use native.Mathlib.Nat.{not-suc-le-zero, le-of-suc-le-suc}
+use native.Mathlib.Decide.{ℕ-discrete, decLt}
+use lib.IntN.{ℤ, pos, negsuc, _+ℤ_, _*ℤ_}
+use lib.Signed.{_≤ℤ_, leZ-yes}
+use lib.ListN.{length, getD, set, take, drop, replicate, length-set, length-append, length-replicate, length-map, List·getD-eq-default, List·getD-append}
+use lib.Seq.{sets, sets-eq, take-append-seam, getD-set-same, getD-set-other, set-out, ext-getD, getD-append-add}
+use Rattle.integers.proofs.Int.{var, num, _⊕_, _⊗_, equal}
+use Rattle.integers.proofs.Laws.{Within, within-weaken, literal, zero-within, le-trans}
+use Rattle.rows.specs.declared.Row.{Row}
+use Rattle.rows.specs.declared.Range.{Range}
+use Rattle.rows.specs.Rows.{dot, rowValue, small, maxCoef, maxConst, maxState, Small, SmallRange, smallRanges, zeroRange}
+use Rattle.grammar.specs.Programs.{Assignment, Action, Program}
+use Rattle.grammar.specs.WellFormed.{Between, Each, Few, RangeOk, RowOk, SetOk, Rising, ActionOk, WellFormed}
+use Rattle.reader.specs.Results.{zeroRow, zeroRows}
+use Rattle.actions.specs.Results.{keepRow, keepRows, assigned}
+use Rattle.programs.specs.Images.{zeroRanges}
+use Rattle.runs.specs.Runs.{within, lowestOff, put}
+use Rattle.runs.specs.Values.{padded, SmallRows}
+use Rattle.runs.proofs.Loops.{noRow}
+use Rattle.runs.proofs.Trying.{first-on, within-small}
+
+-- ---- something holds at every place of a list, past its end too
+module _ {A : Type 0} (P : A → Type 0) (d : A) where
+  abbrev Everywhere : List A → Type 0
+  Everywhere xs = (k : ℕ) → P (getD xs k d)
+
+  every-set : (xs : List A) (i : ℕ) (a : A) → Everywhere xs → P a → Everywhere (set xs i a)
+  every-set xs i a h p k = elim (ℕ-discrete k i) [
+    | yes e ↦ elim (decLt i (length xs)) [
+      | yes l ↦ rw (e, getD-set-same xs i a d l) p
+      | no n ↦ rw (set-out xs i a (omega arith)) (h k)
+    ]
+    | no n ↦ rw (getD-set-other xs i k a d n) (h k)
+  ]
+
+  pub every-sets : (xs : List A) (i : ℕ) (ys : List A) → Everywhere xs → Each P ys → Everywhere (sets xs i ys)
+  every-sets xs i [] h p = h
+  every-sets xs i (y ∷ ys) h p = every-sets (set xs i y) (suc i) ys (every-set xs i y h (p .0)) (p .1)
+
+  pub every-copy : (n : ℕ) (a : A) → P a → P d → Everywhere (replicate n a)
+  every-copy zero a p q k = q
+  every-copy (suc n) a p q zero = p
+  every-copy (suc n) a p q (suc k) = every-copy n a p q k
+
+  pub every-each : (xs : List A) → P d → Each P xs → Everywhere xs
+  every-each [] q p k = q
+  every-each (x ∷ xs) q p zero = p .0
+  every-each (x ∷ xs) q p (suc k) = every-each xs q (p .1) k
+
+-- the front of an array that a list was stored in
+pub front-stored : {A : Type 0} (n : ℕ) (d : A) (xs : List A) → length xs ≤ n → take (length xs) (sets (replicate n d) 0 xs) ≡ xs
+front-stored n d xs h =
+    let room : 0 + length xs ≤ length (replicate n d) = simp length-replicate (omega arith) in
+    ap (take (length xs)) (sets-eq xs (replicate n d) 0 room) ∙ take-append-seam xs (drop (0 + length xs) (replicate n d))
+
+-- ---- small numbers
+between-within : {B : ℕ} {lo hi z : ℤ} → Within B lo → Within B hi → Between lo hi z → Within B z
+between-within l h p = record { low = le-trans (l .low) (p .0); high = le-trans (p .1) (h .high) }
+
+each-within : (cs : List ℤ) → Each (Between (negsuc 999) (pos 1000)) cs → small maxCoef cs
+each-within [] p k = zero-within maxCoef
+each-within (c ∷ cs) p zero = between-within (literal tt tt) (literal tt tt) (p .0)
+each-within (c ∷ cs) p (suc k) = each-within cs (p .1) k
+
+row-small : {vars : ℕ} {r : Row} → RowOk vars r → Small r
+row-small {r = r} p = record { coefs = each-within (r .coef) (p .small); const = between-within (literal tt tt) (literal tt tt) (p .constant) }
+
+no-row-small : Small noRow
+no-row-small = record { coefs = λ k. zero-within maxCoef; const = zero-within maxConst }
+
+zero-row-small : Small zeroRow
+zero-row-small = record { coefs = every-copy (Within maxCoef) (pos 0) 8 (pos 0) (zero-within maxCoef) (zero-within maxCoef); const = zero-within maxConst }
+
+each-small : (vars : ℕ) (rs : List Row) → Each (RowOk vars) rs → Each Small rs
+each-small vars [] p = tt
+each-small vars (r ∷ rs) p = (row-small (p .0), each-small vars rs (p .1))
+
+pub guards-small : (vars : ℕ) (rs : List Row) → Each (RowOk vars) rs → SmallRows (sets zeroRows 0 rs)
+guards-small vars rs p = every-sets Small noRow zeroRows 0 rs (every-copy Small noRow 14 zeroRow zero-row-small no-row-small) (each-small vars rs p)
+
+keep-small : (v : ℕ) → Small (keepRow v)
+keep-small v =
+    record {
+      coefs = every-set (Within maxCoef) (pos 0) (replicate 8 (pos 0)) v (pos 1) (every-copy (Within maxCoef) (pos 0) 8 (pos 0) (zero-within maxCoef) (zero-within maxCoef)) (literal tt tt);
+      const = zero-within maxConst;
+    }
+
+pub rows-small : (vars : ℕ) (rs : List Row) (v : ℕ) (ss : List Assignment) → SmallRows rs → Rising vars v ss → SmallRows (assigned rs ss)
+unfolding assigned
+rows-small vars rs v [] h p = h
+rows-small vars rs v (x ∷ ss) h p = rows-small vars (set rs (x .variable) (x .row)) (suc (x .variable)) ss (every-set Small noRow rs (x .variable) (x .row) h (row-small (p .0 .row))) (p .1)
+
+pub keeps-small : SmallRows keepRows
+keeps-small = every-each Small noRow keepRows no-row-small
+    (keep-small 0, (keep-small 1, (keep-small 2, (keep-small 3, (keep-small 4, (keep-small 5, (keep-small 6, (keep-small 7, tt))))))))
+
+range-small : {g : Range} → RangeOk g → SmallRange g
+range-small p =
+    record { low = between-within (literal tt tt) (literal tt tt) (p .low); high = between-within (literal tt tt) (literal tt tt) (p .high) }
+
+zero-small : SmallRange zeroRange
+zero-small = record { low = zero-within maxState; high = zero-within maxState }
+
+each-range : (gs : List Range) → Each RangeOk gs → Each SmallRange gs
+each-range [] p = tt
+each-range (g ∷ gs) p = (range-small (p .0), each-range gs (p .1))
+
+pub ranges-small : (gs : List Range) → Each RangeOk gs → smallRanges (sets zeroRanges 0 gs)
+ranges-small gs p = every-sets SmallRange zeroRange zeroRanges 0 gs (every-copy SmallRange zeroRange 8 zeroRange zero-small zero-small) (each-range gs p)
+
+-- a state in the ranges, with zeros behind it
+pub state-small : (gs : List Range) (s : List ℤ) (n : ℕ) → Each RangeOk gs → length s ≡ length gs → length gs ≤ lowestOff gs s → small maxState (s ++ replicate n (pos 0))
+unfolding lowestOff
+state-small [] [] n p l h k = every-copy (Within maxState) (pos 0) n (pos 0) (zero-within maxState) (zero-within maxState) k
+state-small [] (x ∷ s) n p l h k = absurd (omega arith)
+state-small (g ∷ gs) [] n p l h k = absurd (omega arith)
+state-small (g ∷ gs) (x ∷ s) n p l h zero = within-small (range-small (p .0)) (first-on (within g x) h .0)
+state-small (g ∷ gs) (x ∷ s) n p l h (suc k) = state-small gs s n (p .1) (omega arith) (first-on (within g x) h .1) k
+
+-- ---- each variable's new value
+map-set : (f : Row → ℤ) (rs : List Row) (i : ℕ) (r : Row) → map f (set rs i r) ≡ set (map f rs) i (f r)
+map-set f [] i r = refl
+map-set f (x ∷ rs) zero r = refl
+map-set f (x ∷ rs) (suc i) r = ap (λ (t : List ℤ). f x ∷ t) (map-set f rs i r)
+
+map-assigned : (x : List ℤ) (rs : List Row) (ss : List Assignment) → map (λ r. rowValue r x) (assigned rs ss) ≡ put ss x (map (λ r. rowValue r x) rs)
+unfolding assigned put
+map-assigned x rs [] = refl
+map-assigned x rs (s ∷ ss) = map-assigned x (set rs (s .variable) (s .row)) ss ∙ ap (put ss x) (map-set (λ r. rowValue r x) rs (s .variable) (s .row))
+
+unit-zeros : (n : ℕ) (x : List ℤ) → dot (replicate n (pos 0)) x ≡ pos 0
+unfolding dot
+unit-zeros zero x = refl
+unit-zeros (suc n) [] = refl
+unit-zeros (suc n) (y ∷ x) = rw (unit-zeros n x) (equal (num 0 ⊗ var y ⊕ num 0) (num 0) (omega arith))
+
+unit-value : (n v : ℕ) (x : List ℤ) → v < n → dot (set (replicate n (pos 0)) v (pos 1)) x ≡ getD x v (pos 0)
+unfolding dot
+unit-value zero v x h = absurd (not-suc-le-zero h)
+unit-value (suc n) zero [] h = refl
+unit-value (suc n) zero (y ∷ x) h = rw (unit-zeros n x) (equal (num 1 ⊗ var y ⊕ num 0) (var y) (omega arith))
+unit-value (suc n) (suc v) [] h = refl
+unit-value (suc n) (suc v) (y ∷ x) h = rw (unit-value n v x (le-of-suc-le-suc h)) (equal (num 0 ⊗ var y ⊕ var (getD x v (pos 0))) (var (getD x v (pos 0))) (omega arith))
+
+keep-value : (v : ℕ) (x : List ℤ) → v < 8 → rowValue (keepRow v) x ≡ getD x v (pos 0)
+keep-value v x h = rw (unit-value 8 v x h) (equal (var (getD x v (pos 0)) ⊕ num 0) (var (getD x v (pos 0))) (omega arith))
+
+at-keep : (v : ℕ) (x : List ℤ) → v < 8 → getD (map (λ r. rowValue r x) keepRows) v (pos 0) ≡ rowValue (keepRow v) x
+at-keep zero x h = refl
+at-keep (suc zero) x h = refl
+at-keep (suc (suc zero)) x h = refl
+at-keep (suc (suc (suc zero))) x h = refl
+at-keep (suc (suc (suc (suc zero)))) x h = refl
+at-keep (suc (suc (suc (suc (suc zero))))) x h = refl
+at-keep (suc (suc (suc (suc (suc (suc zero)))))) x h = refl
+at-keep (suc (suc (suc (suc (suc (suc (suc zero))))))) x h = refl
+at-keep (suc (suc (suc (suc (suc (suc (suc (suc v)))))))) x h = absurd (omega arith)
+
+keeps-values : (x : List ℤ) → length x ≡ 8 → map (λ r. rowValue r x) keepRows ≡ x
+keeps-values x l = ext-getD (pos 0) (map (λ r. rowValue r x) keepRows) x (sym l) (λ v h. at-keep v x h ∙ keep-value v x h)
+
+pub new-values : (x : List ℤ) (ss : List Assignment) → length x ≡ 8 → map (λ r. rowValue r x) (assigned keepRows ss) ≡ put ss x x
+new-values x ss l = map-assigned x keepRows ss ∙ ap (put ss x) (keeps-values x l)

@@ -1,0 +1,122 @@
+-- States and runs, over whole numbers without bound. Nothing here knows of lemmas, graphs or machine words.
+--
+-- holds, allHold    — a row holds at a state; all of some rows do
+-- within, lowestOff — a value is on its range; the lowest variable whose value is not
+-- Inside, Start     — a state in all ranges; a start state
+-- enabled           — an action may be taken
+-- put, assigned     — the values that assignments give, from the old ones and at once
+-- Outcome, landed, actionOf, step — what trying an action does
+-- has, agrees, someAgrees, forbidden — a state meets a combination; some combination
+-- Ending, Run, onward, run — the states of a run over any list of actions, its moves, and how it ended
+-- SafeRun, Safe     — the safety statement: of one run; of all runs
+use mathlib.Core.Path.{_≡_}
+use mathlib.Core.Bool.{Bool, true, false, cond, _&&_, _||_, not}
+use mathlib.Core.List.{List, [], _∷_}
+use Prim.Native.Nat.{ℕ, zero, suc, _+_, _/_, _%_, _^_, _<_}
+use lib.Dec.{eqb, ltb}
+use lib.IntN.{ℤ, pos}
+use lib.Signed.{leZ}
+use lib.ListN.{length, getD, set}
+use Rattle.words.specs.declared.Literals.{Literals}
+use Rattle.rows.specs.declared.Row.{Row}
+use Rattle.rows.specs.declared.Range.{Range}
+use Rattle.rows.specs.Rows.{rowValue}
+use Rattle.grammar.specs.Programs.{Assignment, Action, Program}
+use Rattle.grammar.specs.WellFormed.{Each}
+
+-- A row holds at a state when its value is at least 0.
+abbrev pub holds : Row → List ℤ → Bool
+holds r s = leZ (pos 0) (rowValue r s)
+
+unfoldable pub allHold : List Row → List ℤ → Bool
+allHold [] s = true
+allHold (r ∷ rs) s = holds r s && allHold rs s
+
+abbrev pub within : Range → ℤ → Bool
+within g x = leZ (g .low) x && leZ x (g .high)
+
+-- The lowest variable whose value is off its range; the number of variables if there is none.
+unfoldable pub lowestOff : List Range → List ℤ → ℕ
+lowestOff [] s = 0
+lowestOff (g ∷ gs) [] = 0
+lowestOff (g ∷ gs) (x ∷ s) = cond (within g x) (suc (lowestOff gs s)) 0
+
+-- A start state lies in all ranges and meets every start row.
+pub record Inside (p : Program) (s : List ℤ) : Type 0 where
+  pub long : length s ≡ length (p .ranges)
+  pub none-off : lowestOff (p .ranges) s ≡ length (p .ranges)
+
+pub record Start (p : Program) (s : List ℤ) : Type 0 where
+  pub inside : Inside p s
+  pub meets : allHold (p .start) s ≡ true
+
+-- An action is enabled when all its guard rows hold; with no guard it always is.
+abbrev pub enabled : Action → List ℤ → Bool
+enabled a s = allHold (a .guards) s
+
+-- Its assignments use the old values and happen at once; other variables keep theirs.
+unfoldable pub put : List Assignment → List ℤ → List ℤ → List ℤ
+put [] old s = s
+put (x ∷ xs) old s = put xs old (set s (x .variable) (rowValue (x .row) old))
+
+abbrev pub assigned : Action → List ℤ → List ℤ
+assigned a s = put (a .sets) s s
+
+-- If an exact new value is off its range the action runs off, with the lowest such variable. One that isn't enabled leaves the state.
+pub data Outcome : Type 0 where
+  Moved : List ℤ → Outcome
+  NotEnabled : Outcome
+  RunsOff : ℕ → Outcome
+
+abbrev pub landed : List Range → List ℤ → Outcome
+landed gs t = cond (ltb (lowestOff gs t) (length gs)) (RunsOff (lowestOff gs t)) (Moved t)
+
+abbrev pub actionOf : Program → ℕ → Action
+actionOf p k = getD (p .actions) k (record { guards = []; sets = [] })
+
+abbrev pub step : Program → ℕ → List ℤ → Outcome
+step p k s = cond (enabled (actionOf p k) s) (landed (p .ranges) (assigned (actionOf p k) s)) NotEnabled
+
+-- A state meets a combination when each predicate known true holds and each known false does not.
+abbrev pub has : ℕ → ℕ → Bool
+has j set = eqb (set / 2 ^ j % 2) 1
+
+unfoldable pub agrees : ℕ → List Row → ℕ → List ℤ → Bool
+agrees i [] set s = true
+agrees i (r ∷ rs) set s = not (has i set && not (holds r s)) && not (has (14 + i) set && holds r s) && agrees (suc i) rs set s
+
+-- A state is forbidden when it meets all literals of some forbidden combination.
+unfoldable pub someAgrees : List Row → List Literals → List ℤ → Bool
+someAgrees rs [] s = false
+someAgrees rs (l ∷ ls) s = agrees 0 rs (l .0) s || someAgrees rs ls s
+
+abbrev pub forbidden : Program → List ℤ → Bool
+forbidden p s = someAgrees (p .predicates) (p .forbidden) s
+
+-- Any list of actions is tried, each on the state that the last one left. The run's states are the first and each one left.
+pub data Ending : Type 0 where
+  Finished : Ending
+  RanOff : Ending
+
+pub record Run : Type 0 where
+  pub states : List (List ℤ)
+  pub moves : ℕ
+  pub ending : Ending
+
+abbrev pub onward : List ℤ → Outcome → (List ℤ → Run) → Run
+onward s (Moved t) go = record { states = s ∷ go t .states; moves = suc (go t .moves); ending = go t .ending }
+onward s NotEnabled go = record { states = s ∷ go s .states; moves = go s .moves; ending = go s .ending }
+onward s (RunsOff v) go = record { states = s ∷ []; moves = 0; ending = RanOff }
+
+unfoldable pub run : Program → List ℕ → List ℤ → Run
+run p [] s = record { states = s ∷ []; moves = 0; ending = Finished }
+run p (k ∷ ks) s = onward s (step p k s) (run p ks)
+
+-- No state of the run is forbidden, and no action that is enabled when tried gives a variable a value off its range.
+pub record SafeRun (p : Program) (r : Run) : Type 0 where
+  pub never-forbidden : Each (λ s. forbidden p s ≡ false) (r .states)
+  pub never-off : r .ending ≡ Finished
+
+-- Demand 3: every run from a start state, over any list of the program's actions, is safe.
+abbrev pub Safe : Program → Type 0
+Safe p = (s : List ℤ) → Start p s → (ks : List ℕ) → Each (λ k. k < length (p .actions)) ks → SafeRun p (run p ks s)

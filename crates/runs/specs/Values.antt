@@ -1,0 +1,33 @@
+-- A state as eight values. Only contracts of functions within the project cite these.
+--
+-- padded    — a state of at most eight variables, with zeros behind
+-- SmallRows — every row's numbers are small enough to compute with
+-- tried     — what trying an action does, on arrays
+use mathlib.Core.Bool.{cond}
+use mathlib.Core.List.{List, [], _++_, map}
+use Prim.Native.Nat.{ℕ, _-_}
+use lib.Dec.{ltb}
+use lib.IntN.{ℤ, pos}
+use lib.ListN.{length, getD, take, replicate}
+use Rattle.rows.specs.declared.Row.{Row}
+use Rattle.rows.specs.declared.Range.{Range}
+use Rattle.rows.specs.Rows.{rowValue, Small}
+use Rattle.actions.specs.declared.ActionRead.{ActionRead}
+use Rattle.runs.specs.declared.Stepped.the-variants.{Moved, NotEnabled, RunsOff}
+use Rattle.runs.specs.Runs.{allHold, lowestOff}
+use Rattle.runs.specs.Calls.{Stepping, stay}
+
+abbrev pub padded : List ℤ → List ℤ
+padded s = s ++ replicate (8 - length s) (pos 0)
+
+abbrev pub SmallRows : List Row → Type 0
+SmallRows rs = (k : ℕ) → Small (getD rs k (record { coef = []; constant = pos 0 }))
+
+-- what trying an action's rows on eight values does: the same as `step`, on arrays
+abbrev pub tried : List Range → ActionRead → List ℤ → List ℤ → Stepping
+tried gs a old s =
+    cond (allHold (take (a .guards) (a .guard)) old)
+    (cond (ltb (lowestOff (take (length s) gs) (take (length s) (map (λ r. rowValue r old) (a .rows)))) (length s))
+    (stay (RunsOff (lowestOff (take (length s) gs) (take (length s) (map (λ r. rowValue r old) (a .rows))))) s)
+    (record { answer = Moved; state = take (length s) (map (λ r. rowValue r old) (a .rows)) }))
+    (stay NotEnabled s)

@@ -1,0 +1,178 @@
+// States, runs and Step.
+ghost use mathlib.Core.Path.{_≡_};
+ghost use mathlib.Core.List.{_++_, map};
+ghost use mathlib.Core.Bool.{_&&_};
+ghost use Prim.Native.Nat.{ℕ, _+_, _-_, _<_, _≤_, _^_};
+ghost use lib.IntN.{pos};
+ghost use lib.ListN.{length, take, getD, replicate};
+ghost use mir.Syntax.{w32};
+ghost use mir.Val.{SFits};
+ghost use Rattle.rows.specs.Rows.{rowValue, small, smallRanges, maxState};
+ghost use Rattle.runs.specs.Runs.{within, lowestOff, allHold};
+ghost use Rattle.runs.specs.Calls.{stepCall};
+ghost use Rattle.runs.specs.Values.{padded, SmallRows, tried};
+
+use words::Refusal;
+use rows::Range;
+use rows::Row;
+use reader::Next;
+use programs::Status;
+use actions::ActionRead;
+
+// What Step answers.
+pub enum Stepped {
+    Moved,
+    NotEnabled,
+    // The lowest variable whose new value is off its range.
+    RunsOff(usize),
+    Refused(Refusal),
+}
+
+fn wide(x: i32) -> i64
+    ensures { λ r. ⌜ r ≡ x ⌝ }
+{
+    x as i64
+}
+
+// The values of a state of at most eight variables, zero past the last one.
+fn widened(state: &[i32]) -> [i64; 8]
+    requires { ⌜ length (now state) ≤ 8 ⌝ }
+    ensures { λ r. ⌜ r ≡ padded (now (state .entry)) ⌝ }
+{
+    let mut x = [0i64; 8];
+    let mut v: usize = 0;
+    while v < state.len() {
+        x[v] = wide(state[v]);
+        v += 1;
+    }
+    x
+}
+
+// Is a value on its range?
+fn on_range(range: Range, x: i64) -> bool
+    ensures { λ r. ⌜ r ≡ within range x ⌝ }
+{
+    let low = range.low;
+    let high = range.high;
+    if low <= x { x <= high } else { false }
+}
+
+// The lowest of n variables whose value is off its range; n if there is none.
+fn lowest_off(ranges: [Range; 8], n: usize, x: [i64; 8]) -> usize
+    requires { ⌜ n ≤ 8 ⌝ }
+    ensures { λ r. ⌜ r ≡ lowestOff (take n ranges) (take n x) ⌝ }
+{
+    let mut v: usize = 0;
+    while v < n {
+        let range = ranges[v];
+        let a = x[v];
+        if !on_range(range, a) {
+            return v;
+        }
+        v += 1;
+    }
+    v
+}
+
+// Do the first n rows hold?
+fn all_hold(rows: [Row; 14], n: usize, x: [i64; 8]) -> bool
+    requires { ⌜ (n ≤ 14) × SmallRows rows × small maxState x ⌝ }
+    ensures { λ r. ⌜ r ≡ allHold (take n rows) x ⌝ }
+{
+    let mut k: usize = 0;
+    while k < n {
+        let row = rows[k];
+        let a = rows::value(row, x);
+        if a < 0 {
+            return false;
+        }
+        k += 1;
+    }
+    true
+}
+
+// The value of each of eight rows.
+fn values(rows: [Row; 8], x: [i64; 8]) -> [i64; 8]
+    requires { ⌜ SmallRows rows × small maxState x ⌝ }
+    ensures { λ r. ⌜ r ≡ map (λ row. rowValue row x) rows ⌝ }
+{
+    let mut out = [0i64; 8];
+    let mut v: usize = 0;
+    while v < 8 {
+        let row = rows[v];
+        out[v] = rows::value(row, x);
+        v += 1;
+    }
+    out
+}
+
+fn narrow(x: i64) -> i32
+    requires { ⌜ SFits w32 x ⌝ }
+    ensures { λ r. ⌜ r ≡ x ⌝ }
+{
+    x as i32
+}
+
+// The first values, written to a state.
+fn write(state: &mut [i32], x: [i64; 8])
+    requires { ⌜ (length (now state) ≤ 8) × ((v : ℕ) → v < length (now state) → SFits w32 (getD x v (pos 0))) ⌝ }
+    ensures { λ _. ⌜ now (state .exit) ≡ take (length (now (state .entry))) x ⌝ }
+{
+    let mut v: usize = 0;
+    while v < state.len() {
+        let a = x[v];
+        state[v] = narrow(a);
+        v += 1;
+    }
+}
+
+// An action's guard rows and each variable's row, tried on a state whose values are `old`.
+fn take_action(ranges: [Range; 8], action: ActionRead, old: [i64; 8], state: &mut [i32]) -> Stepped
+    requires { ⌜ (length (now state) ≤ 8) × (action .guards ≤ 14) × SmallRows (action .guard) × SmallRows (action .rows) × small maxState old × smallRanges ranges ⌝ }
+    ensures { λ r. ⌜ (r ≡ tried ranges action old (now (state .entry)) .answer) × (now (state .exit) ≡ tried ranges action old (now (state .entry)) .state) ⌝ }
+{
+    let guards = action.guards;
+    let guard = action.guard;
+    if !all_hold(guard, guards, old) {
+        return Stepped::NotEnabled;
+    }
+    let rows = action.rows;
+    let new = values(rows, old);
+    let vars = state.len();
+    let off = lowest_off(ranges, vars, new);
+    if off < vars {
+        return Stepped::RunsOff(off);
+    }
+    write(&mut *state, new);
+    Stepped::Moved
+}
+
+// Step: action k of a program, taken on a lent state. Only `Moved` writes.
+pub fn step(words: &[u32], k: usize, state: &mut [i32]) -> Stepped
+    ensures { λ r. ⌜ (r ≡ stepCall (now (words .entry)) k (now (state .entry)) .answer) × (now (state .exit) ≡ stepCall (now (words .entry)) k (now (state .entry)) .state) ⌝ }
+{
+    let loaded = programs::load(words);
+    let status = loaded.status;
+    if let Status::Failed(why) = status {
+        return Stepped::Refused(why);
+    }
+    let image = loaded.image;
+    let count = image.actions;
+    if count <= k {
+        return Stepped::Refused(Refusal::Absent(k));
+    }
+    let vars = image.vars;
+    let n = state.len();
+    if n != vars {
+        return Stepped::Refused(Refusal::Length(n));
+    }
+    let ranges = image.ranges;
+    let old = widened(&state[..]);
+    let off = lowest_off(ranges, vars, old);
+    if off < vars {
+        return Stepped::Refused(Refusal::State(off));
+    }
+    let at = image.action_at[k];
+    let action = actions::read_action(words, at, vars, true);
+    take_action(ranges, action, old, &mut *state)
+}
