@@ -2,3 +2,5 @@ pub mod Worked
 pub mod Loops
 pub mod Trying
 pub mod Sizes
+pub mod Tried
+pub mod Answers

@@ -1,76 +1,91 @@
+use Prim.Native.Nat.{_≤_}
+use lib.ListN.{take}
+use Rattle.programs.specs.Calls.{actionPart}
+use Rattle.programs.proofs.Answers.{Found}
+use Rattle.runs.specs.Runs.{lowestOff}
+use Rattle.runs.specs.Values.{padded}
+use mathlib.Core.Path.{_≡_, refl, sym, ap, _∙_}
+use native.Mathlib.Omega.{arith}
+use Rattle.programs.specs.Calls.{read}
+use Rattle.programs.proofs.Answers.{found}
+use Rattle.runs.specs.Calls.{Stepping}
+use Rattle.runs.proofs.Answers.{Held, held, Tried, vars-few, step-refused, step-absent, step-length, step-off, step-tried}
 use borrow.Author.Needs.{needs}
 use Rattle.runs.proofs.step.Statement.{statement}
 use Rattle.runs.proofs.step.Tie as tie
-use Rattle.runs.proofs.step.Reads as reads
-use Rattle.runs.proofs.step.Lts as lts
-use Rattle.actions.proofs.read_action.Reads as read-action-reads
-use Rattle.programs.proofs.load.Reads as load-reads
-use Rattle.runs.proofs.lowest_off.Reads as lowest-off-reads
-use Rattle.runs.proofs.take_action.Reads as take-action-reads
-use Rattle.runs.proofs.widened.Reads as widened-reads
 
--- src/lib.rt:154:9
+held-at : (c : tie.After-enum-told) → Held (c .before .before .before .before .args .words .now) (c .before .before .load .result .image)
+held-at c = held (c .before .before .before .before .args .words .now) (c .before .before .load .ensures) (c .enum-told .given .1)
+
+both : {a b : Stepping} → a ≡ b → (a .answer ≡ b .answer) × (a .state ≡ b .state)
+both e = (ap (λ (y : Stepping). y .answer) e, ap (λ (y : Stepping). y .state) e)
+
+few-at : (c : tie.After-enum-told) → c .before .before .load .result .image .vars ≤ 8
+few-at c = vars-few (c .before .before .before .before .args .words .now) (held-at c) (c .before .before .before .before .args .k) (c .before .before .before .before .args .state .now)
+
+found-at : (c : tie.Else1) → Found (c .before .before .before .before .before .before .args .words .now) (c .before .before .before .before .before .before .args .k) (c .before .before .before .before .load .result .image) (actionPart (c .before .before .before .before .before .before .args .words .now) (c .before .before .before .before .before .before .args .k))
+found-at c = found (c .before .before .before .before .before .before .args .words .now) (c .before .before .before .before .before .before .args .k) (c .before .before .before .before .load .ensures) (c .if1 .left)
+
+off-is : (c : tie.After-lowest-off) → let g = c .before .before .before .before .before .before .before .before .before .load .result .image in
+    c .lowest-off .result ≡ lowestOff (take (g .vars) (g .ranges)) (take (g .vars) (padded (c .before .before .before .before .before .before .before .before .before .before .before .args .state .now)))
+off-is c = rw (c .before .widened .ensures) at (c .lowest-off .ensures)
+
+tried-at : (c : tie.After-read-action) → Tried (c .before .before .before .before .before .before .before .before .before .before .before .before .before .before .args .words .now) (held-at (c .before .before .before .before .before .before .before .before .before .before)) (c .before .before .before .before .before .before .before .before .before .before .before .before .before .before .args .k) (c .before .before .before .before .before .before .before .before .before .before .before .before .before .before .args .state .now) (c .before .before .before .before .before .before .before .before .if1 .left) (c .before .before .before .before .before .before .before .if2 .left) (off-is (c .before .before .before)) (c .before .before .if3 .left) (c .read-action .result)
+tried-at c = step-tried (c .before .before .before .before .before .before .before .before .before .before .before .before .before .before .args .words .now) (held-at (c .before .before .before .before .before .before .before .before .before .before)) (c .before .before .before .before .before .before .before .before .before .before .before .before .before .before .args .k) (c .before .before .before .before .before .before .before .before .before .before .before .before .before .before .args .state .now) (c .before .before .before .before .before .before .before .before .if1 .left) (c .before .before .before .before .before .before .before .if2 .left) (off-is (c .before .before .before)) (c .before .before .if3 .left) (c .read-action .ensures)
+
 load-requires : tie.Need-load-requires
 load-requires c κs = search needs
 
--- src/lib.rt:156:27
 enum-known-status : tie.Need-enum-known-status
 enum-known-status c = search needs
 
--- src/lib.rt:157:9
 returns : tie.Need-returns
-returns c = ?
+returns c = both (step-refused (read (c .before .before .before .before .before .args .words .now)) (c .before .before .before .before .before .args .k) (c .before .before .before .before .before .args .state .now) (c .before .before .before .load .ensures) (c .before .status .given .1))
 
 enum-told : tie.Need-enum-told
 enum-told c = search needs
 
--- src/lib.rt:162:9
 returns-2 : tie.Need-returns-2
-returns-2 c = ?
+returns-2 c = both (step-absent (c .before .before .before .before .before .before .args .words .now) (held-at (c .before .before)) (c .before .before .before .before .before .before .args .k) (c .before .before .before .before .before .before .args .state .now) (c .if1 .taken))
 
--- src/lib.rt:167:9
 returns-3 : tie.Need-returns-3
-returns-3 c = ?
+returns-3 c = both (step-length (c .before .before .before .before .before .before .before .args .words .now) (held-at (c .before .before .before)) (c .before .before .before .before .before .before .before .args .k) (c .before .before .before .before .before .before .before .args .state .now) (c .before .if1 .left) (c .if2 .taken))
 
--- src/lib.rt:170:9
 widened-requires : tie.Need-widened-requires
-widened-requires c κs = ?
+widened-requires c κs = let f = few-at (c .before .before .before .before .before) in omega (arith, c .before .before .if2 .left)
 
--- src/lib.rt:171:9
 lowest-off-requires : tie.Need-lowest-off-requires
-lowest-off-requires c κs = ?
+lowest-off-requires c κs = few-at (c .before .before .before .before .before .before)
 
--- src/lib.rt:173:9
 same-length : tie.Need-same-length
 same-length c = search needs
 
--- src/lib.rt:173:9
 returns-4 : tie.Need-returns-4
-returns-4 c = ?
+returns-4 c = both (step-off (c .before .before .before .before .before .before .before .before .before .before .before .before .args .words .now) (held-at (c .before .before .before .before .before .before .before .before)) (c .before .before .before .before .before .before .before .before .before .before .before .before .args .k) (c .before .before .before .before .before .before .before .before .before .before .before .before .args .state .now) (c .before .before .before .before .before .before .if1 .left) (c .before .before .before .before .before .if2 .left) (off-is (c .before)) (c .if3 .taken))
 
--- src/lib.rt:175:14
 mul-at : tie.Need-mul-at
-mul-at c = ?
+mul-at c = let f = found-at (c .before .before .before .before .before .before) in omega (arith, f .small)
 
--- src/lib.rt:175:14
 element-copy-out-at : tie.Need-element-copy-out-at
-element-copy-out-at c = ?
+element-copy-out-at c = found-at (c .before .before .before .before .before .before) .small
 
--- src/lib.rt:176:9
 read-action-requires : tie.Need-read-action-requires
-read-action-requires c κs = ?
+read-action-requires c κs = let f = found-at (c .before .before .before .before .before .before .before) in (f .few, f .begin)
 
--- src/lib.rt:177:5
 take-action-requires : tie.Need-take-action-requires
-take-action-requires c κs = ?
+take-action-requires c κs =
+    let t = tried-at (c .before) in
+    let f = few-at (c .before .before .before .before .before .before .before .before .before .before .before) in
+    (omega (arith, c .before .before .before .before .before .before .before .before .if2 .left), t .guards-few, t .guards-good, t .rows-good, rw (c .before .before .before .before .before .widened .ensures) (t .state-good), t .ranges-good)
 
--- src/lib.rt:151:1
 same-length-2 : tie.Need-same-length-2
 same-length-2 c = search needs
 
--- src/lib.rt:151:1
 returns-5 : tie.Need-returns-5
-returns-5 c = ?
+returns-5 c =
+    let e = rw (c .before .before .before .before .before .before .before .widened .ensures) at (c .before .take-action .ensures) in
+    let t = both (tried-at (c .before .before .before) .is-step) in
+    (e .0 ∙ t .0, e .1 ∙ t .1)
 
 pub step-spec : {M : Type 1} → statement M
 step-spec =
