@@ -1,16 +1,18 @@
 #!/usr/bin/env python3
-"""Test vectors for the two calls Check and Action part of show logic.
+"""Test vectors for the calls Check, Action part and Step of show logic.
 
 Every expected answer is written by hand from the sentences of the scope document; nothing here reads a program.
 
     python3 vectors.py OUTDIR    writes OUTDIR/stdin and OUTDIR/stdout
     python3 vectors.py --list    prints name, call and expected answer, one vector per line
 
-stdin is a run of little-endian 32-bit words: per vector the call (0 Check, 1 Action part), k (0 for Check), n, n words.
+stdin is a run of little-endian 32-bit words: per vector the call (0 Check, 1 Action part, 2 Step), k (0 for Check), n, n words;
+for Step then m and m state values in two's complement.
 stdout has one line per vector:
     COUNTS v s p a f    variables, start rows, predicates, actions, forbidden combinations
     REFUSED r AT p      the refusal's number and the word index returned with it
     PART w w w          the words of the part in decimal; only PART when the part is empty
+Step's line is MOVED, NOT ENABLED, RUNS OFF v or REFUSED r AT p, then LEFT and each state value at exit in decimal.
 """
 
 import os
@@ -87,7 +89,7 @@ def with_bit(word, bit):
 # ---------------------------------------------------------------------------------------------------------------------
 # The list of vectors
 
-VECTORS = []     # (group, name, call, k, words, answer)
+VECTORS = []     # (group, name, call, k, words, state, answer); only Step has a state
 GROUP = [""]
 
 
@@ -96,11 +98,15 @@ def group(title):
 
 
 def check(name, words, answer):
-    VECTORS.append((GROUP[0], name, 0, 0, list(words), answer))
+    VECTORS.append((GROUP[0], name, 0, 0, list(words), None, answer))
 
 
 def part(name, words, k, answer):
-    VECTORS.append((GROUP[0], name, 1, k, list(words), answer))
+    VECTORS.append((GROUP[0], name, 1, k, list(words), None, answer))
+
+
+def step(name, words, k, state, answer):
+    VECTORS.append((GROUP[0], name, 2, k, list(words), list(state), answer))
 
 
 def PART(*words):
@@ -776,6 +782,156 @@ part("4: SET of an unknown variable in action 1, 0", action_program(ACTION(0, 0)
 part("4: unknown predicate after the actions, 0", action_program(ACTION(0, 0), SETS([], [0])), 0, "PART")
 part("4: unknown predicate and no such action", action_program(ACTION(0, 0), SETS([], [0])), 1, "PART")
 
+# ---------------------------------------------------------------------------------------------------------------------
+# "An action is enabled when all its guard rows hold"; only moved writes.
+group("step: Fade")
+
+step("Fade 0 at 0", FADE, 0, [0], "NOT ENABLED LEFT 0")
+step("Fade 0 at 4", FADE, 0, [4], "NOT ENABLED LEFT 4")
+step("Fade 0 at 5", FADE, 0, [5], "MOVED LEFT 0")
+step("Fade 0 at 995", FADE, 0, [995], "MOVED LEFT 990")
+step("Fade 0 at 996", FADE, 0, [996], "MOVED LEFT 991")
+step("Fade 0 at 1000", FADE, 0, [1000], "MOVED LEFT 995")
+step("Fade 1 at 0", FADE, 1, [0], "MOVED LEFT 5")
+step("Fade 1 at 4", FADE, 1, [4], "MOVED LEFT 9")
+step("Fade 1 at 5", FADE, 1, [5], "MOVED LEFT 10")
+step("Fade 1 at 995", FADE, 1, [995], "MOVED LEFT 1000")
+step("Fade 1 at 996", FADE, 1, [996], "NOT ENABLED LEFT 996")
+step("Fade 1 at 1000", FADE, 1, [1000], "NOT ENABLED LEFT 1000")
+
+# ---------------------------------------------------------------------------------------------------------------------
+# Level and house. Step asks neither the start rows nor the forbidden combinations: a state only has to lie in its ranges.
+group("step: House")
+
+step("House 0 at 0 0", HOUSE, 0, [0, 0], "MOVED LEFT 0 1")
+step("House 1 at 0 0", HOUSE, 1, [0, 0], "MOVED LEFT 500 0")
+step("House 2 at 0 0", HOUSE, 2, [0, 0], "MOVED LEFT 0 0")
+step("House 3 at 0 0", HOUSE, 3, [0, 0], "MOVED LEFT 0 0")
+step("House 1 at 0 1", HOUSE, 1, [0, 1], "NOT ENABLED LEFT 0 1")
+step("House 3 at 0 1", HOUSE, 3, [0, 1], "MOVED LEFT 0 0")
+step("House 0 at 500 0", HOUSE, 0, [500, 0], "NOT ENABLED LEFT 500 0")
+step("House 0 at 1000 1, forbidden", HOUSE, 0, [1000, 1], "NOT ENABLED LEFT 1000 1")
+step("House 1 at 1000 1, forbidden", HOUSE, 1, [1000, 1], "NOT ENABLED LEFT 1000 1")
+step("House 2 at 1000 1, forbidden", HOUSE, 2, [1000, 1], "MOVED LEFT 0 1")
+step("House 3 at 1000 1, forbidden", HOUSE, 3, [1000, 1], "MOVED LEFT 1000 0")
+
+# ---------------------------------------------------------------------------------------------------------------------
+# "Its assignments use the old values and happen at once; other variables keep theirs."
+group("step: eight variables at once")
+
+# Eight variables -100..100. Action 0: each is the sum of the seven others. 1: each is the next one, the last is the first.
+# 2: each is the one before, the first is the last. 3: variables 2 and 5 change places.
+AT_ONCE = [VAR(-100, 100)] * 8 + [INIT(0), PRED(0)] + [
+    ACTION(0, 8),
+    SET(0), ROW(0), TERM(1, 1), TERM(2, 1), TERM(3, 1), TERM(4, 1), TERM(5, 1), TERM(6, 1), TERM(7, 1),
+    SET(1), ROW(0), TERM(0, 1), TERM(2, 1), TERM(3, 1), TERM(4, 1), TERM(5, 1), TERM(6, 1), TERM(7, 1),
+    SET(2), ROW(0), TERM(0, 1), TERM(1, 1), TERM(3, 1), TERM(4, 1), TERM(5, 1), TERM(6, 1), TERM(7, 1),
+    SET(3), ROW(0), TERM(0, 1), TERM(1, 1), TERM(2, 1), TERM(4, 1), TERM(5, 1), TERM(6, 1), TERM(7, 1),
+    SET(4), ROW(0), TERM(0, 1), TERM(1, 1), TERM(2, 1), TERM(3, 1), TERM(5, 1), TERM(6, 1), TERM(7, 1),
+    SET(5), ROW(0), TERM(0, 1), TERM(1, 1), TERM(2, 1), TERM(3, 1), TERM(4, 1), TERM(6, 1), TERM(7, 1),
+    SET(6), ROW(0), TERM(0, 1), TERM(1, 1), TERM(2, 1), TERM(3, 1), TERM(4, 1), TERM(5, 1), TERM(7, 1),
+    SET(7), ROW(0), TERM(0, 1), TERM(1, 1), TERM(2, 1), TERM(3, 1), TERM(4, 1), TERM(5, 1), TERM(6, 1),
+    ACTION(0, 8),
+    SET(0), ROW(0), TERM(1, 1), SET(1), ROW(0), TERM(2, 1), SET(2), ROW(0), TERM(3, 1), SET(3), ROW(0), TERM(4, 1),
+    SET(4), ROW(0), TERM(5, 1), SET(5), ROW(0), TERM(6, 1), SET(6), ROW(0), TERM(7, 1), SET(7), ROW(0), TERM(0, 1),
+    ACTION(0, 8),
+    SET(0), ROW(0), TERM(7, 1), SET(1), ROW(0), TERM(0, 1), SET(2), ROW(0), TERM(1, 1), SET(3), ROW(0), TERM(2, 1),
+    SET(4), ROW(0), TERM(3, 1), SET(5), ROW(0), TERM(4, 1), SET(6), ROW(0), TERM(5, 1), SET(7), ROW(0), TERM(6, 1),
+    ACTION(0, 2), SET(2), ROW(0), TERM(5, 1), SET(5), ROW(0), TERM(2, 1),
+    END(),
+]
+step("the sum of the others, all in all 36", AT_ONCE, 0, [1, 2, 3, 4, 5, 6, 7, 8], "MOVED LEFT 35 34 33 32 31 30 29 28")
+step("the sum of the others, all in all 0", AT_ONCE, 0, [1, -1, 2, -2, 3, -3, 4, -4], "MOVED LEFT -1 1 -2 2 -3 3 -4 4")
+step("the sum of the others, all in all 110: six on the high end", AT_ONCE, 0, [10, 10, 10, 10, 10, 10, 20, 30],
+     "MOVED LEFT 100 100 100 100 100 100 90 80")
+step("the sum of the others, all in all 111: 0 to 5 run off", AT_ONCE, 0, [10, 10, 10, 10, 10, 10, 20, 31],
+     "RUNS OFF 0 LEFT 10 10 10 10 10 10 20 31")
+step("the sum of the others, only the last runs off", AT_ONCE, 0, [-15, -15, -15, -15, -15, -15, -15, 0],
+     "RUNS OFF 7 LEFT -15 -15 -15 -15 -15 -15 -15 0")
+step("the sum of the others, 3 and 5 run off", AT_ONCE, 0, [20, 20, 20, -10, 20, -10, 20, 20],
+     "RUNS OFF 3 LEFT 20 20 20 -10 20 -10 20 20")
+step("each takes the next one's value", AT_ONCE, 1, [1, 2, 3, 4, 5, 6, 7, 8], "MOVED LEFT 2 3 4 5 6 7 8 1")
+step("each takes the value of the one before", AT_ONCE, 2, [1, 2, 3, 4, 5, 6, 7, 8], "MOVED LEFT 8 1 2 3 4 5 6 7")
+step("2 and 5 change places, the others keep theirs", AT_ONCE, 3, [1, 2, 3, 4, 5, 6, 7, 8], "MOVED LEFT 1 2 6 4 5 3 7 8")
+
+# ---------------------------------------------------------------------------------------------------------------------
+# "With no guard it always is" enabled; "all its guard rows hold".
+group("step: guards")
+
+step("no guard row, no assignment", action_program(ACTION(0, 0)), 0, [7], "MOVED LEFT 7")
+step("sixteen 15 is there", TOLD_APART, 15, [9], "MOVED LEFT 9")
+
+# x and y, 0..9. If x is at least 3 and y at most 5, x is y.
+BOTH = [
+    VAR(0, 9), VAR(0, 9), INIT(0), PRED(0), ACTION(2, 1), ROW(-3), TERM(0, 1), ROW(5), TERM(1, -1), SET(0), ROW(0), TERM(1, 1), END(),
+]
+step("both guard rows hold", BOTH, 0, [3, 5], "MOVED LEFT 5 5")
+step("only the second guard row holds", BOTH, 0, [2, 5], "NOT ENABLED LEFT 2 5")
+step("only the first guard row holds", BOTH, 0, [3, 6], "NOT ENABLED LEFT 3 6")
+step("not enabled before runs off", action_program(ACTION(1, 1), ROW(-1), SET(0), ROW(10)), 0, [7], "NOT ENABLED LEFT 7")
+# 512 times 64 is 32,768. The values are whole numbers of any size.
+step("a guard's value past 16 bits", [VAR(0, 1000), INIT(0), PRED(0), ACTION(1, 0), ROW(0), TERM(0, 512), END()], 0, [64],
+     "MOVED LEFT 64")
+# 8 times -1,000 times -8,192 is 65,536,000, and one less is at least 0.
+step("the largest value of a guard", [VAR(-8192, 8191)] * 8 + [
+    INIT(0), PRED(0), ACTION(1, 0), ROW(-1), TERM(0, -1000), TERM(1, -1000), TERM(2, -1000), TERM(3, -1000), TERM(4, -1000),
+    TERM(5, -1000), TERM(6, -1000), TERM(7, -1000), END(),
+], 0, [-8192, -8192, -8192, -8192, -8192, -8192, -8192, -8192],
+     "MOVED LEFT -8192 -8192 -8192 -8192 -8192 -8192 -8192 -8192")
+
+# ---------------------------------------------------------------------------------------------------------------------
+# "If an exact new value is off its range the action runs off"; "runs off with the lowest such variable; only moved writes".
+group("step: runs off")
+
+# x and y, -3..3. Action 0: x - 1. 1: x + 1. 2: x + 1 and y + 1. 3: x - 1 and y + 1.
+NARROW = [
+    VAR(-3, 3), VAR(-3, 3), INIT(0), PRED(0),
+    ACTION(0, 1), SET(0), ROW(-1), TERM(0, 1),
+    ACTION(0, 1), SET(0), ROW(1), TERM(0, 1),
+    ACTION(0, 2), SET(0), ROW(1), TERM(0, 1), SET(1), ROW(1), TERM(1, 1),
+    ACTION(0, 2), SET(0), ROW(-1), TERM(0, 1), SET(1), ROW(1), TERM(1, 1),
+    END(),
+]
+step("down to the low end", NARROW, 0, [-2, 0], "MOVED LEFT -3 0")
+step("past the low end", NARROW, 0, [-3, 0], "RUNS OFF 0 LEFT -3 0")
+step("up to the high end", NARROW, 1, [2, 1], "MOVED LEFT 3 1")
+step("past the high end", NARROW, 1, [3, 1], "RUNS OFF 0 LEFT 3 1")
+step("both past the high end", NARROW, 2, [3, 3], "RUNS OFF 0 LEFT 3 3")
+step("the first moves, the second runs off", NARROW, 2, [2, 3], "RUNS OFF 1 LEFT 2 3")
+step("the first low, the second high", NARROW, 3, [-3, 3], "RUNS OFF 0 LEFT -3 3")
+step("incident: takes 10 off level 5 with no guard", [VAR(0, 1000), INIT(0), PRED(0), ACTION(0, 1), SET(0), ROW(-10), TERM(0, 1),
+     END()], 0, [5], "RUNS OFF 0 LEFT 5")
+# 512 times 128 is 65,536, whose low 16 bits are 0.
+step("a new value past 16 bits", [VAR(0, 1000), INIT(0), PRED(0), ACTION(0, 1), SET(0), ROW(0), TERM(0, 512), END()], 0, [128],
+     "RUNS OFF 0 LEFT 128")
+
+# ---------------------------------------------------------------------------------------------------------------------
+# "Step: 2 to 4, 8, 9, 10", and each leaves the state.
+group("step: refusals")
+
+step("2 before 8 and 9", FADE[:-1], 9, [], "REFUSED 2 AT 15 LEFT")
+step("2 after END, all else good", FADE + [0], 0, [5], "REFUSED 2 AT 16 LEFT 5")
+step("3 before 8 and 10", [VAR(0, 9), INIT(9), PRED(0), ACTION(0, 0), END()], 5, [-1], "REFUSED 3 AT 1 LEFT -1")
+step("4 before 8 and 9", [VAR(1, 0), INIT(0), PRED(0), ACTION(0, 0), END()], 7, [], "REFUSED 4 AT 0 LEFT")
+step("4 in a later action before 10", action_program(ACTION(0, 0), ACTION(0, 1), SET(1), ROW(0)), 0, [10],
+     "REFUSED 4 AT 5 LEFT 10")
+step("8: Fade 2", FADE, 2, [5], "REFUSED 8 AT 2 LEFT 5")
+step("8: Fade 2^32 - 1", FADE, 0xFFFFFFFF, [5], "REFUSED 8 AT 4294967295 LEFT 5")
+step("8: no action", NO_PRED + [END()], 0, [5], "REFUSED 8 AT 0 LEFT 5")
+step("8 before 9", FADE, 2, [], "REFUSED 8 AT 2 LEFT")
+step("8 before 10", FADE, 65536, [-1], "REFUSED 8 AT 65536 LEFT -1")
+step("9: empty state", FADE, 0, [], "REFUSED 9 AT 0 LEFT")
+step("9: one value too few", HOUSE, 2, [1], "REFUSED 9 AT 1 LEFT 1")
+step("9: one value too many", HOUSE, 2, [1, 0, 0], "REFUSED 9 AT 3 LEFT 1 0 0")
+step("9 before 10", FADE, 0, [-1, 1001], "REFUSED 9 AT 2 LEFT -1 1001")
+step("10: Fade 0 at -1", FADE, 0, [-1], "REFUSED 10 AT 0 LEFT -1")
+step("10: Fade 1 at 1001, where its guard fails", FADE, 1, [1001], "REFUSED 10 AT 0 LEFT 1001")
+step("10: Fade 1 at -2147483648", FADE, 1, [-2147483648], "REFUSED 10 AT 0 LEFT -2147483648")
+step("10: Fade 0 at 2147483647", FADE, 0, [2147483647], "REFUSED 10 AT 0 LEFT 2147483647")
+step("10: House, the second high", HOUSE, 3, [0, 2], "REFUSED 10 AT 1 LEFT 0 2")
+step("10: House, the second low", HOUSE, 3, [1000, -1], "REFUSED 10 AT 1 LEFT 1000 -1")
+step("10: House, both", HOUSE, 3, [1001, -1], "REFUSED 10 AT 0 LEFT 1001 -1")
+
 
 # ---------------------------------------------------------------------------------------------------------------------
 # Writing the files
@@ -785,21 +941,24 @@ STDIN_LIMIT = 60000
 
 def stdin_bytes():
     words = []
-    for _, _, call, k, program, _ in VECTORS:
+    for _, _, call, k, program, state, _ in VECTORS:
         words += [call, k, len(program)] + program
+        if state is not None:
+            words += [len(state)] + [signed(value, 32) for value in state]
     return struct.pack("<%dI" % len(words), *words)
 
 
 def stdout_text():
-    return "".join(answer + "\n" for _, _, _, _, _, answer in VECTORS)
+    return "".join(answer + "\n" for _, _, _, _, _, _, answer in VECTORS)
 
 
 def slips():
     """Slips of the pen: names that stand twice and answers of no known form."""
-    names = [(call, name) for _, name, call, _, _, _ in VECTORS]
+    names = [(call, name) for _, name, call, _, _, _, _ in VECTORS]
     assert len(names) == len(set(names)), [n for n in names if names.count(n) > 1]
-    form = [re.compile(r"COUNTS( \d+){5}|REFUSED [234] AT \d+"), re.compile(r"PART( \d+)*")]
-    for _, name, call, _, _, answer in VECTORS:
+    form = [re.compile(r"COUNTS( \d+){5}|REFUSED [234] AT \d+"), re.compile(r"PART( \d+)*"),
+            re.compile(r"(MOVED|NOT ENABLED|RUNS OFF \d|REFUSED ([23489]|10) AT \d+) LEFT( -?\d+)*")]
+    for _, name, call, _, _, _, answer in VECTORS:
         assert form[call].fullmatch(answer), name
     assert len(stdin_bytes()) < STDIN_LIMIT
 
@@ -807,8 +966,8 @@ def slips():
 def main(arguments):
     slips()
     if arguments == ["--list"]:
-        for title, name, call, k, _, answer in VECTORS:
-            print("%s: %s | %s | %s" % (title, name, "part %d" % k if call else "check", answer))
+        for title, name, call, k, _, _, answer in VECTORS:
+            print("%s: %s | %s | %s" % (title, name, ["check", "part %d" % k, "step %d" % k][call], answer))
         return 0
     if len(arguments) != 1 or arguments[0].startswith("-"):
         print("usage: vectors.py OUTDIR | vectors.py --list", file=sys.stderr)

@@ -32,8 +32,7 @@ use Rattle.programs.specs.declared.Counted.{Counted}
 use Rattle.programs.specs.declared.Actions.{Actions}
 use Rattle.programs.specs.declared.Forbidden.{Forbidden}
 use Rattle.programs.specs.declared.Loaded.{Loaded}
-use Rattle.programs.specs.declared.Status.the-variants.{Ready}
-use Rattle.programs.specs.Images.{rangesFrom, zeroRanges, countedRead, places, actionsFrom, forbiddenFrom, firstAction, loaded, Rest, rest, restLoaded}
+use Rattle.programs.specs.Images.{rangesFrom, zeroRanges, countedRead, places, actionsFrom, forbiddenFrom, firstAction, loaded, Rest, rest, imageWith, restLoaded}
 
 -- ---- what each reader's answer says
 ranges-next : (m : Read (List Range)) → rangesFrom zeroRanges 0 0 m .next ≡ nextOf m
@@ -107,25 +106,6 @@ module _ (ws : List ℕ) (kind most vars i : ℕ) {x : Counted} (e : x ≡ count
           counted = ap (λ (y : Counted). y .count) w;
         },
       ))
-
--- the image of parts that have been read
-abbrev pub imageWith : Ranges → Counted → Counted → List ℕ → ℕ → List Literals → ℕ → Loaded
-imageWith gs start ps places actions literals forbidden =
-    record {
-      status = Ready;
-      image = record {
-        vars = gs .count;
-        ranges = gs .ranges;
-        starts = start .count;
-        start = start .rows;
-        preds = ps .count;
-        pred = ps .rows;
-        actions = actions;
-        «action_at» = places;
-        forbidden = forbidden;
-        literals = literals;
-      };
-    }
 
 image-same : (gs : Ranges) (start ps : Counted) {ns ns′ : List ℕ} {n n′ : ℕ} {ls ls′ : List Literals} {m m′ : ℕ} → ns ≡ ns′ → n ≡ n′ → ls ≡ ls′ → m ≡ m′
     → imageWith gs start ps ns n ls m ≡ imageWith gs start ps ns′ n′ ls′ m′

@@ -19,7 +19,7 @@ use Rattle.programs.specs.declared.Ranges.{Ranges}
 use Rattle.programs.specs.declared.Counted.{Counted}
 use Rattle.programs.specs.declared.Loaded.{Loaded}
 use Rattle.programs.specs.Images.{zeroRanges, firstAction, loaded, Rest, rest, restLoaded}
-use Rattle.programs.proofs.Stages.{RangesAt, CountedAt, imageWith}
+use Rattle.programs.proofs.Stages.{RangesAt, CountedAt}
 
 abbrev programOf : List Range → List Row → List Row → Rest → Program
 programOf gs start ps r = record { ranges = gs; start = start; predicates = ps; actions = r .actions; forbidden = r .forbidden }

@@ -8,7 +8,7 @@
 -- firstAction                           — the index of a program's first action
 -- imageOf, noImage, loaded              — the image of a program
 -- placeOf                               — the index where reading goes on
--- Rest, rest, restLoaded                — what follows the predicates, and the image with it
+-- Rest, rest, imageWith, restLoaded     — what follows the predicates, and the image with it
 use mathlib.Core.List.{List, [], _∷_, _++_}
 use Prim.Native.Nat.{ℕ, _+_}
 use lib.IntN.{ℤ, pos}
@@ -124,9 +124,9 @@ rest vars preds = do
   e ← end
   pure (record { actions = xs; forbidden = ls })
 
--- the image with what was read before and what follows
-abbrev pub restLoaded : Ranges → Counted → Counted → Read Rest → ℕ → Loaded
-restLoaded gs start preds (got r ws i) at =
+-- the image of parts that have been read
+abbrev pub imageWith : Ranges → Counted → Counted → List ℕ → ℕ → List Literals → ℕ → Loaded
+imageWith gs start preds places actions literals forbidden =
     record {
       status = Ready;
       image = record {
@@ -136,10 +136,15 @@ restLoaded gs start preds (got r ws i) at =
         start = start .rows;
         preds = preds .count;
         pred = preds .rows;
-        actions = length (r .actions);
-        «action_at» = sets (replicate 16 0) 0 (places at (r .actions));
-        forbidden = length (r .forbidden);
-        literals = sets (replicate 8 noLiterals) 0 (r .forbidden);
+        actions = actions;
+        «action_at» = places;
+        forbidden = forbidden;
+        literals = literals;
       };
     }
+
+-- the image with what was read before and what follows
+abbrev pub restLoaded : Ranges → Counted → Counted → Read Rest → ℕ → Loaded
+restLoaded gs start preds (got r ws i) at =
+    imageWith gs start preds (sets (replicate 16 0) 0 (places at (r .actions))) (length (r .actions)) (sets (replicate 8 noLiterals) 0 (r .forbidden)) (length (r .forbidden))
 restLoaded gs start preds (refused x) at = record { status = Failed x; image = noImage }

@@ -75,7 +75,7 @@ module _ (ws : List ℕ) (p : Program) {us : List ℕ} {i : ℕ} (q : read ws �
       off-range h = rw (q, lt-ltb k (length (p .actions)) known, eq-eqb (length s) (length (p .ranges)) l, lt-ltb (lowestOff (p .ranges) s) (length (p .ranges)) h) refl
 
       module _ (on : length (p .ranges) ≤ lowestOff (p .ranges) s) where
-        on-range : outcome (step p k s) s ≡ stepCall ws k s
+        pub on-range : outcome (step p k s) s ≡ stepCall ws k s
         on-range = rw (q, lt-ltb k (length (p .actions)) known, eq-eqb (length s) (length (p .ranges)) l, le-ltb (lowestOff (p .ranges) s) (length (p .ranges)) on) refl
 
         abbrev place : ℕ

@@ -4,3 +4,4 @@ pub mod Trying
 pub mod Sizes
 pub mod Tried
 pub mod Answers
+pub mod Steps

@@ -1,23 +1,21 @@
 // States, runs and Step.
 ghost use mathlib.Core.Path.{_≡_};
-ghost use mathlib.Core.List.{_++_, map};
-ghost use mathlib.Core.Bool.{_&&_};
-ghost use Prim.Native.Nat.{ℕ, _+_, _-_, _<_, _≤_, _^_};
+ghost use mathlib.Core.List.{map};
+ghost use Prim.Native.Nat.{ℕ, _<_, _≤_};
 ghost use lib.IntN.{pos};
-ghost use lib.ListN.{length, take, getD, replicate};
+ghost use lib.ListN.{length, take, getD, set};
 ghost use mir.Syntax.{w32};
 ghost use mir.Val.{SFits};
-ghost use Rattle.rows.specs.Rows.{rowValue, small, smallRanges, maxState};
+ghost use Rattle.rows.specs.Rows.{rowValue, small, Small, smallRanges, maxState};
 ghost use Rattle.runs.specs.Runs.{within, lowestOff, allHold};
 ghost use Rattle.runs.specs.Calls.{stepCall};
 ghost use Rattle.runs.specs.Values.{padded, SmallRows, tried};
-
-use words::Refusal;
+use actions::ActionRead;
+use programs::Status;
+use reader::Next;
 use rows::Range;
 use rows::Row;
-use reader::Next;
-use programs::Status;
-use actions::ActionRead;
+use words::Refusal;
 
 // What Step answers.
 pub enum Stepped {
@@ -91,6 +89,16 @@ fn all_hold(rows: [Row; 14], n: usize, x: [i64; 8]) -> bool
     true
 }
 
+// Some values with the value of a row at the old ones put in one place.
+fn with_value(out: [i64; 8], v: usize, row: Row, x: [i64; 8]) -> [i64; 8]
+    requires { ⌜ (v < 8) × Small row × small maxState x ⌝ }
+    ensures { λ r. ⌜ r ≡ set out v (rowValue row x) ⌝ }
+{
+    let mut next = out;
+    next[v] = rows::value(row, x);
+    next
+}
+
 // The value of each of eight rows.
 fn values(rows: [Row; 8], x: [i64; 8]) -> [i64; 8]
     requires { ⌜ SmallRows rows × small maxState x ⌝ }
@@ -100,7 +108,8 @@ fn values(rows: [Row; 8], x: [i64; 8]) -> [i64; 8]
     let mut v: usize = 0;
     while v < 8 {
         let row = rows[v];
-        out[v] = rows::value(row, x);
+        let next = with_value(out, v, row, x);
+        out = next;
         v += 1;
     }
     out
@@ -168,9 +177,9 @@ pub fn step(words: &[u32], k: usize, state: &mut [i32]) -> Stepped
     }
     let ranges = image.ranges;
     let old = widened(&state[..]);
-    let off = lowest_off(ranges, vars, old);
-    if off < vars {
-        return Stepped::Refused(Refusal::State(off));
+    let outside = lowest_off(ranges, vars, old);
+    if outside < vars {
+        return Stepped::Refused(Refusal::State(outside));
     }
     let at = image.action_at[k];
     let action = actions::read_action(words, at, vars, true);

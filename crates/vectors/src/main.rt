@@ -1,9 +1,13 @@
 // Test vectors. Standard input, at most 65,536 bytes, is little-endian words: for each vector a call, a number k, a count n and n words.
+// A vector of Step goes on with a count m and m words, the state's values in two's complement.
 // Each vector has one line on standard output. Input that breaks off inside a vector ends the run there.
 ghost use Prim.Native.Nat.{_≤_};
 ghost use lib.ListN.{length};
+ghost use mir.Syntax.{w32};
+ghost use mir.Val.{SFits};
 use programs::Checked;
 use programs::Counts;
+use runs::Stepped;
 use words::Refusal;
 
 fn wide(word: u32) -> usize {
@@ -51,16 +55,118 @@ fn part(words: &[u32]) {
     }
 }
 
-// The line of one vector, by the number of its call.
-fn answer(call: u32, k: usize, words: &[u32]) {
+// The number that a word is in two's complement.
+fn value(word: u32) -> i32 {
+    if word < 2147483648 {
+        word as i32
+    } else {
+        !((4294967295 - word) as i32)
+    }
+}
+
+// The values of the words, to the front of a state.
+fn fill(state: &mut [i32], words: &[u32])
+    requires { ⌜ length (now words) ≤ length (now state) ⌝ }
+{
+    let mut i: usize = 0;
+    while i < words.len() {
+        state[i] = value(words[i]);
+        i += 1;
+    }
+}
+
+// A number without its sign.
+fn magnitude(x: i64) -> u64
+    requires { ⌜ SFits w32 x ⌝ }
+{
+    if x < 0 { (0 - x) as u64 } else { x as u64 }
+}
+
+// A signed number after a space.
+fn signed_number(x: i32) {
+    io::write_all(1, b" ");
+    if x < 0 {
+        io::write_all(1, b"-");
+    }
+    io::print_decimal(1, magnitude(x as i64));
+}
+
+// The values of a state at exit.
+fn left(state: &[i32]) {
+    io::write_all(1, b" LEFT");
+    let mut i: usize = 0;
+    while i < state.len() {
+        signed_number(state[i]);
+        i += 1;
+    }
+}
+
+fn stepped(s: Stepped) {
+    match s {
+        Stepped::Moved => {
+            io::write_all(1, b"MOVED");
+        }
+        Stepped::NotEnabled => {
+            io::write_all(1, b"NOT ENABLED");
+        }
+        Stepped::RunsOff(v) => {
+            io::write_all(1, b"RUNS OFF");
+            number(v);
+        }
+        Stepped::Refused(r) => refused(r),
+    }
+}
+
+// Step, on the values of the state's words.
+fn on_state(words: &[u32], k: usize, state: &[u32], values: &mut [i32])
+    requires { ⌜ length (now state) ≤ length (now values) ⌝ }
+{
+    fill(&mut *values, state);
+    let s = runs::step(words, k, &mut *values);
+    stepped(s);
+    left(&values[..]);
+}
+
+// Step, in room for sixteen values.
+fn step(words: &[u32], k: usize, state: &[u32]) {
+    let m = state.len();
+    if m <= 16 {
+        let mut values = [0i32; 16];
+        on_state(words, k, state, &mut values[..m]);
+    } else {
+        io::write_all(1, b"NO SUCH CALL");
+    }
+}
+
+// The line of one vector, by the number of its call; only Step has a state.
+fn answer(call: u32, k: usize, words: &[u32], state: &[u32]) {
     match call {
         0 => check(words),
         1 => part(programs::action_part(words, k)),
+        2 => step(words, k, state),
         _ => {
             io::write_all(1, b"NO SUCH CALL");
         }
     }
     io::write_all(1, b"\n");
+}
+
+// The line of Step, whose state's count stands at `at`. Where the vector ends; 0 where it breaks off.
+fn with_state(k: usize, words: &[u32], at: usize) -> usize
+    requires { ⌜ (3 ≤ at) × (at ≤ length (now words)) ⌝ }
+    ensures { λ r. ⌜ r ≤ length (now (words .entry)) ⌝ }
+{
+    if words.len() - at < 1 {
+        return 0;
+    }
+    let m = wide(words[at]);
+    let start = at + 1;
+    if words.len() - start < m {
+        return 0;
+    }
+    let end = start + m;
+    answer(2, k, &words[3..at], &words[start..end]);
+    end
 }
 
 // The line of the vector at the front. How many words the vector has; 0 where there is none or it breaks off.
@@ -75,7 +181,12 @@ fn first(words: &[u32]) -> usize
         return 0;
     }
     let end = n + 3;
-    answer(words[0], wide(words[1]), &words[3..end]);
+    let call = words[0];
+    let k = wide(words[1]);
+    if call == 2 {
+        return with_state(k, words, end);
+    }
+    answer(call, k, &words[3..end], &words[end..end]);
     end
 }
 

@@ -1,17 +1,12 @@
-use mir.Syntax.{w64}
-use mir.Val.{SFits}
-use mir.Facts.{toZ-ofZ}
+use mathlib.Core.Path.{_≡_, refl, _∙_}
 use mathlib.Core.List.{map}
-use lib.ListN.{length-map}
-use Rattle.runs.proofs.Loops.{getD-mapped}
-use mathlib.Core.Path.{_≡_, refl, sym, ap, _∙_}
-use Prim.Native.Nat.{_+_, _-_, _<_, _≤_}
+use Prim.Native.Nat.{_-_, _≤_}
 use native.Mathlib.Omega.{arith}
 use lib.IntN.{pos}
-use lib.ListN.{length, getD}
+use lib.ListN.{length, getD, length-map}
 use Rattle.integers.proofs.Fill.{Filled, filled-none, filled-next, filled-all}
 use Rattle.rows.specs.Rows.{rowValue}
-use Rattle.runs.proofs.Loops.{noRow}
+use Rattle.runs.proofs.Loops.{noRow, getD-mapped}
 use borrow.Author.Needs.{needs}
 use Rattle.runs.proofs.values.Statement.{statement}
 use Rattle.runs.proofs.values.Tie as tie
@@ -31,14 +26,8 @@ mul-row c = search needs
 array-copy-out-row : tie.Need-array-copy-out-row Inv-loop μ-loop
 array-copy-out-row c = search needs
 
-value-requires : tie.Need-value-requires Inv-loop μ-loop
-value-requires c κs = (c .before .before .before .pre .0 (c .before .before .loop .v), c .before .before .before .pre .1)
-
-mul-out : tie.Need-mul-out Inv-loop μ-loop
-mul-out c = search needs
-
-array-set-from-out : tie.Need-array-set-from-out Inv-loop μ-loop
-array-set-from-out c = search needs
+with-value-requires : tie.Need-with-value-requires Inv-loop μ-loop
+with-value-requires c κs = (search needs, c .before .before .before .pre .0 (c .before .before .loop .v), c .before .before .before .pre .1)
 
 add-v : tie.Need-add-v Inv-loop μ-loop
 add-v c = search needs
@@ -47,9 +36,7 @@ loop-less : tie.Need-loop-less Inv-loop μ-loop
 loop-less c = search needs
 
 loop-again : tie.Need-loop-again Inv-loop μ-loop
-loop-again c =
-    let f : SFits w64 (c .value .result) = search needs in
-    (omega arith, filled-next (c .before .before .before .loop .inv .1) (search needs) (toZ-ofZ f ∙ c .value .ensures))
+loop-again c = (omega arith, rw (c .with-value .ensures) (filled-next (c .before .before .before .loop .inv .1) (search needs) refl))
 
 returns : tie.Need-returns Inv-loop μ-loop
 returns c =
@@ -67,9 +54,7 @@ values-spec =
     loop-holds
     mul-row
     array-copy-out-row
-    value-requires
-    mul-out
-    array-set-from-out
+    with-value-requires
     add-v
     loop-less
     loop-again

@@ -60,9 +60,11 @@ loop-again c =
     let f : SFits w64 (getD x v (pos 0)) = search needs in
     let h : SFits w32 (c .narrow .result) = search needs in
     let e : toZ w32 (ofZ w32 (c .narrow .result)) ≡ getD x v (pos 0) = toZ-ofZ h ∙ rw (toZ-ofZ f) at (c .narrow .ensures) in
-    let more : drop v s ≡ getD s v (pos 0) ∷ drop (v + 1) s = rw (add-one v) (drop-cons s v (pos 0) (omega arith)) in
-    (omega arith, length-set g v (toZ w32 (ofZ w32 (c .narrow .result))) ∙ c .before .before .before .loop .inv .1,
-    rw e (copied-next g (getD s v (pos 0)) (drop (v + 1) s) v x (omega arith) (c .before .before .before .loop .inv .2 ∙ ap (λ (y : List ℤ). take v x ++ y) more)))
+    let more : drop v s ≡ getD s v (pos 0) ∷ drop (v + 1) s = rw (add-one v) (drop-cons s v (pos 0) (omega arith)) in (
+      omega arith,
+      length-set g v (toZ w32 (ofZ w32 (c .narrow .result))) ∙ c .before .before .before .loop .inv .1,
+      rw e (copied-next g (getD s v (pos 0)) (drop (v + 1) s) v x (omega arith) (c .before .before .before .loop .inv .2 ∙ ap (λ (y : List ℤ). take v x ++ y) more)),
+    )
 
 same-length : tie.Need-same-length Inv-loop μ-loop
 same-length c = search needs
