@@ -4,10 +4,9 @@ use mathlib.Core.Bool.{Bool, true, false, not, _&&_}
 use Prim.Native.Nat.{ℕ}
 use native.Mathlib.Omega.{arith}
 use lib.Dec.{T}
-use lib.IntN.{ℤ, pos, negsuc, negℤ}
+use lib.IntN.{ℤ, pos, negsuc}
 use lib.Signed.{ltZ, leZ, _<ℤ_, _≤ℤ_, ltZ-yes, leZ-yes, ltZ-no, clashℤ}
 use borrow.Author.Tests.{leb-false, lt-ltb}
-use Rattle.integers.proofs.Laws.{Within}
 
 holds : {b : Bool} → b ≡ true → T b
 holds e = subst T (sym e) tt
@@ -31,12 +30,6 @@ ltZ-false a b e = ltZ-no (fails e)
 
 pub leZ-true : (a b : ℤ) → leZ a b ≡ true → a ≤ℤ b
 leZ-true a b e = leZ-yes (holds e)
-
-pub lt-ltZ : (a b : ℤ) → a <ℤ b → ltZ a b ≡ true
-lt-ltZ a b h = is-true (ltZ a b) (h .lt)
-
-pub le-ltZ : (a b : ℤ) → b ≤ℤ a → ltZ a b ≡ false
-le-ltZ a b h = is-false (ltZ a b) (λ t. clashℤ (ltZ-yes t) h)
 
 pub le-leZ : (a b : ℤ) → a ≤ℤ b → leZ a b ≡ true
 le-leZ a b h = is-true (leZ a b) (h .le)
@@ -62,9 +55,3 @@ not-false false h = sym h
 pub and-true : (a b : Bool) → (a && b) ≡ true → (a ≡ true) × (b ≡ true)
 and-true true b e = (refl, e)
 and-true false b e = let z : _≡_ {A = ℕ} 0 1 = cc in absurd (omega arith)
-
--- the range test of the code gives the bound
-pub within-test : (B : ℕ) (z : ℤ) → (leZ (negℤ (pos B)) z && leZ z (pos B)) ≡ true → Within B z
-within-test B z e =
-    let p = and-true (leZ (negℤ (pos B)) z) (leZ z (pos B)) e in
-    record { low = leZ-true (negℤ (pos B)) z (p .0); high = leZ-true z (pos B) (p .1) }

@@ -1,19 +1,18 @@
 -- Check and Action part, from the image of a program.
 use mathlib.Core.Path.{_≡_, refl, sym, ap, _∙_}
 use mathlib.Core.Bool.{true}
-use mathlib.Core.List.{List, [], _∷_, _++_, map}
-use Prim.Native.Nat.{ℕ, zero, suc, _+_, _-_, _≤_, _<_}
+use mathlib.Core.List.{List, [], map}
+use Prim.Native.Nat.{ℕ, _+_, _-_, _≤_, _<_}
 use native.Mathlib.Omega.{arith}
-use native.Mathlib.Nat.{not-suc-le-zero, le-of-suc-le-suc}
 use lib.ListN.{length, getD, take, drop, replicate, length-map, length-drop, List·getD-eq-default}
 use lib.Seq.{sets, length-take-le}
+use Rattle.integers.proofs.Fill.{getD-mapped}
 use Rattle.words.specs.declared.Refusal.{Refusal}
 use Rattle.grammar.specs.Reading.{Read, got, refused}
-use Rattle.grammar.specs.Programs.{Action, Program}
-use Rattle.grammar.specs.Grammar.{action, program}
+use Rattle.grammar.specs.Programs.{Program}
+use Rattle.grammar.specs.Grammar.{action}
 use Rattle.grammar.specs.Encoding.{encodeAction}
 use Rattle.grammar.proofs.ProgramLaws.{Accepted, accepted}
-use Rattle.reader.specs.declared.Next.{Next}
 use Rattle.reader.specs.declared.Next.the-variants.{At}
 use Rattle.reader.specs.declared.Next.the-variants.{Refused as Stopped}
 use Rattle.actions.specs.declared.ActionRead.{ActionRead}
@@ -22,9 +21,9 @@ use Rattle.programs.specs.declared.Image.{Image}
 use Rattle.programs.specs.declared.Loaded.{Loaded}
 use Rattle.programs.specs.declared.Status.the-variants.{Ready, Failed}
 use Rattle.programs.specs.declared.Checked.the-variants.{Good, Refused}
-use Rattle.programs.specs.Calls.{read, checked, check, partOf, actionPart, PartOf}
-use Rattle.programs.specs.Images.{imageOf, noImage, loaded, places, firstAction}
-use Rattle.programs.proofs.Places.{ActionK, action-k, noneAction, stored-at, length-places}
+use Rattle.programs.specs.Calls.{read, checked, partOf, actionPart, PartOf}
+use Rattle.programs.specs.Images.{imageOf, loaded, places, firstAction}
+use Rattle.programs.proofs.Places.{action-k, noneAction, stored-at, length-places}
 
 -- ---- Check
 pub check-refused : (m : Read Program) {x : Loaded} {r : Refusal} → x ≡ loaded m → x .status ≡ Failed r → Refused r ≡ checked m
@@ -51,11 +50,6 @@ no-action (refused q) k e h = refl
 
 at-same : {i j : ℕ} → At i ≡ At j → i ≡ j
 at-same e = cc e
-
-getD-mapped : (xs : List Action) (k : ℕ) → k < length xs → getD (map encodeAction xs) k [] ≡ encodeAction (getD xs k noneAction)
-getD-mapped [] k h = absurd (not-suc-le-zero h)
-getD-mapped (x ∷ xs) zero h = refl
-getD-mapped (x ∷ xs) (suc k) h = getD-mapped xs k (le-of-suc-le-suc h)
 
 -- action k in the image of an accepted program: what is read where it begins, and where it ends
 pub record Found (ws : List ℕ) (k : ℕ) (g : Image) (part : List ℕ) : Type 0 where
@@ -85,7 +79,7 @@ found-in ws k p ok h =
       never = λ e r. let q = rw (same, t .read) at e in let z : _≡_ {A = ℕ} 0 1 = cc (ap (λ (y : ActionRead). y .next) q, r) in omega arith;
       ends = λ e r.
           let q = rw (same, t .read) at e in
-          rw (same, getD-mapped (p .actions) k h) (span ws at (length (encodeAction a)) (t .here) (t .words) (at-same (sym r ∙ ap (λ (y : ActionRead). y .next) q)));
+          rw (same, getD-mapped encodeAction (p .actions) k noneAction [] h) (span ws at (length (encodeAction a)) (t .here) (t .words) (at-same (sym r ∙ ap (λ (y : ActionRead). y .next) q)));
     }
 
 -- ---- from what `load` gives

@@ -1,8 +1,8 @@
 -- What Check and Action part answer, for any list of words.
 --
 -- read       — the program that a list of words is, or the refusal that is due
--- check      — Check: the five counts, or the refusal
--- actionPart — Action part: the words of action k, none where the list is refused or has no such action
+-- countsOf, checked, check — Check: the five counts, or the refusal
+-- partOf, actionPart — Action part: the words of action k, none where the list is refused or has no such action
 -- PartOf     — a list is a part of another
 use mathlib.Core.Path.{_≡_}
 use mathlib.Core.List.{List, [], map}

@@ -1,7 +1,7 @@
 -- Laws of a row: its value and the loop that computes it, its largest value over the ranges, its negation. Assumes nothing.
 use mathlib.Core.Path.{_≡_, refl, sym, ap, _∙_}
 use mathlib.Core.Bool.{true, false}
-use mathlib.Core.List.{List, [], _∷_, _++_, map}
+use mathlib.Core.List.{List, [], _∷_, map}
 use mathlib.Core.Logic.{_↔_}
 use Prim.Native.Nat.{ℕ, zero, suc, zero-le, _+_, _*_, _<_, _≤_}
 use native.Mathlib.Nat.{not-suc-le-zero, le-of-suc-le-suc}
@@ -10,7 +10,7 @@ use native.Mathlib.Omega.{arith}
 use borrow.Author.Tests.{ltb-true}
 use lib.Dec.{le→leb}
 use lib.IntN.{ℤ, pos, negsuc, negℤ, _+ℤ_, _-ℤ_, _*ℤ_, +ℤ-assoc, +ℤ-comm, +ℤ-idr}
-use lib.ListN.{length, getD, drop, replicate, drop-of-length-le}
+use lib.ListN.{length, getD, drop, drop-of-length-le}
 use lib.Seq.{drop-cons}
 use lib.Signed.{ltZ, _≤ℤ_, ≤ℤ-refl, leZ-yes}
 use mir.Syntax.{w64}
@@ -120,26 +120,6 @@ dot-below (b ∷ bs) (in-one {g = g} p q r) = add-le (term-below b g p q) (dot-b
 
 pub largest-is : (r : Row) {gs : List Range} {xs : List ℤ} → InRanges gs xs → rowValue r xs ≤ℤ largestValue r gs
 largest-is r p = add-le (dot-below (r .coef) p) (≤ℤ-refl (r .constant))
-
--- ---- ranges from 0 to 0 past the last variable change nothing
-end-zero : (a : ℤ) → endUnder a zeroRange ≡ pos 0
-end-zero (pos a) = refl
-end-zero (negsuc a) = refl
-
-dot-zeros : (bs : List ℤ) (n : ℕ) → dot bs (ends bs (replicate n zeroRange)) ≡ pos 0
-unfolding dot ends
-dot-zeros [] n = refl
-dot-zeros (b ∷ bs) zero = refl
-dot-zeros (b ∷ bs) (suc n) = rw (end-zero b, dot-zeros bs n) (equal (var b ⊗ num 0 ⊕ num 0) (num 0) (omega arith))
-
-dot-padded : (bs : List ℤ) (gs : List Range) (n : ℕ) → dot bs (ends bs (gs ++ replicate n zeroRange)) ≡ dot bs (ends bs gs)
-unfolding dot ends
-dot-padded [] gs n = refl
-dot-padded (b ∷ bs) [] n = dot-zeros (b ∷ bs) n
-dot-padded (b ∷ bs) (g ∷ gs) n = rw (dot-padded bs gs n)
-
-pub largest-padded : (r : Row) (gs : List Range) (n : ℕ) → largestValue r (gs ++ replicate n zeroRange) ≡ largestValue r gs
-largest-padded r gs n = rw (dot-padded (r .coef) gs n)
 
 -- ---- the negated row: its value, and where it holds
 dot-negated : (bs xs : List ℤ) → dot (map negℤ bs) xs ≡ negℤ (dot bs xs)

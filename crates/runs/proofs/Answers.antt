@@ -1,7 +1,7 @@
 -- Step's answers, from the image of the program.
 use mathlib.Core.Path.{_≡_, refl, sym, ap, subst, _∙_}
-use mathlib.Core.Bool.{true, false}
-use mathlib.Core.List.{List, [], _∷_, _++_}
+use mathlib.Core.Bool.{true}
+use mathlib.Core.List.{List, [], _∷_}
 use Prim.Native.Nat.{ℕ, zero, suc, _+_, _-_, _≤_, _<_}
 use native.Mathlib.Omega.{arith}
 use lib.IntN.{ℤ, pos}
@@ -16,7 +16,7 @@ use Rattle.grammar.specs.Programs.{Action, Program}
 use Rattle.grammar.specs.Grammar.{action}
 use Rattle.grammar.specs.Encoding.{encodeAction}
 use Rattle.grammar.specs.WellFormed.{Each, ActionOk}
-use Rattle.grammar.proofs.ProgramLaws.{Accepted, accepted}
+use Rattle.grammar.proofs.ProgramLaws.{accepted}
 use Rattle.actions.specs.declared.ActionRead.{ActionRead}
 use Rattle.actions.specs.Results.{actionRead, keepRows}
 use Rattle.programs.specs.declared.Image.{Image}
@@ -24,10 +24,10 @@ use Rattle.programs.specs.declared.Loaded.{Loaded}
 use Rattle.programs.specs.declared.Status.the-variants.{Ready, Failed}
 use Rattle.programs.specs.Calls.{read}
 use Rattle.programs.specs.Images.{imageOf, loaded, places, firstAction, zeroRanges}
-use Rattle.programs.proofs.Places.{ActionK, action-k, stored-at, length-places}
+use Rattle.programs.proofs.Places.{action-k, stored-at, length-places}
 use Rattle.runs.specs.declared.Stepped.the-variants.{Refused}
 use Rattle.runs.specs.Runs.{lowestOff, actionOf, step}
-use Rattle.runs.specs.Calls.{Stepping, stay, outcome, stepped, stepCall}
+use Rattle.runs.specs.Calls.{stay, outcome, stepped, stepCall}
 use Rattle.runs.specs.Values.{padded, SmallRows, tried}
 use Rattle.runs.proofs.Sizes.{front-stored, guards-small, rows-small, keeps-small, ranges-small, state-small}
 use Rattle.runs.proofs.Tried.{tried-is}
@@ -143,9 +143,6 @@ module _ (ws : List ℕ) {g : Image} (h : Held ws g) (k : ℕ) (s : List ℤ) wh
       module _ (e : g .vars ≤ off) where
         on : length (p .ranges) ≤ lowestOff (p .ranges) s
         on = omega (arith, off-is, counts .1)
-
-        pub place-small : k < 16
-        place-small = omega (arith, known-in, accepted ws p (h .rest) (h .index) (h .is-read) .good .actions .few)
 
         pub record Tried (y : ActionRead) : Type 0 where
           pub guards-few : y .guards ≤ 14

@@ -1,15 +1,14 @@
 -- One turn of each loop over a state.
 use mathlib.Core.Path.{_≡_, refl, sym, ap, _∙_}
 use mathlib.Core.Bool.{true, false, cond, _&&_}
-use mathlib.Core.List.{List, [], _∷_, _++_, map}
-use Prim.Native.Nat.{ℕ, zero, suc, _+_, _-_, _≤_, _<_}
+use mathlib.Core.List.{List, [], _∷_, _++_}
+use Prim.Native.Nat.{ℕ, suc, _+_, _-_, _≤_, _<_}
 use native.Mathlib.Omega.{arith}
 use native.Mathlib.Numerals.{add-one}
-use native.Mathlib.Nat.{not-suc-le-zero, le-of-suc-le-suc}
 use lib.IntN.{ℤ, pos}
 use lib.Signed.{leZ, ltZ}
-use lib.ListN.{length, getD, set, take, drop, replicate, length-take, length-set, drop-of-length-le}
-use lib.Seq.{drop-cons, take-suc, set-at, length-take-le, getD-take, append-snoc, take-length, drop-length}
+use lib.ListN.{length, getD, set, take, drop, replicate, drop-of-length-le}
+use lib.Seq.{drop-cons, take-suc, set-at, length-take-le, append-snoc}
 use Rattle.integers.proofs.Tests.{ltZ-true, ltZ-false, lt-leZ, le-leZ}
 use Rattle.rows.specs.declared.Row.{Row}
 use Rattle.rows.specs.declared.Range.{Range}
@@ -66,8 +65,3 @@ below-fails z h = lt-leZ (pos 0) z (ltZ-true z (pos 0) h)
 
 pub above-holds : (z : ℤ) → ltZ z (pos 0) ≡ false → leZ (pos 0) z ≡ true
 above-holds z h = le-leZ (pos 0) z (ltZ-false z (pos 0) h)
-
-pub getD-mapped : (f : Row → ℤ) (rs : List Row) (k : ℕ) → k < length rs → getD (map f rs) k (pos 0) ≡ f (getD rs k noRow)
-getD-mapped f [] k h = absurd (not-suc-le-zero h)
-getD-mapped f (r ∷ rs) zero h = refl
-getD-mapped f (r ∷ rs) (suc k) h = getD-mapped f rs k (le-of-suc-le-suc h)

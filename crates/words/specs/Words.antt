@@ -5,7 +5,7 @@
 -- payload    — the payload, bits 27 to 0
 -- word       — the word of a kind and a payload
 -- VAR .. END — the kinds
--- signed     — the number that a field of so many bits stands for, in two's complement
+-- signedBy, signed — the number that a field stands for, in two's complement
 -- unsigned   — the bits of a number
 -- literals   — a set of literals from its two sets of predicates
 -- literalsOf — the set in a SETS word

@@ -4,9 +4,9 @@ use Prim.Native.Nat.{_-_, _≤_}
 use native.Mathlib.Omega.{arith}
 use lib.IntN.{pos}
 use lib.ListN.{length, getD, length-map}
-use Rattle.integers.proofs.Fill.{Filled, filled-none, filled-next, filled-all}
+use Rattle.integers.proofs.Fill.{Filled, filled-none, filled-next, filled-all, getD-mapped}
 use Rattle.rows.specs.Rows.{rowValue}
-use Rattle.runs.proofs.Loops.{noRow, getD-mapped}
+use Rattle.runs.proofs.Loops.{noRow}
 use borrow.Author.Needs.{needs}
 use Rattle.runs.proofs.values.Statement.{statement}
 use Rattle.runs.proofs.values.Tie as tie
@@ -43,7 +43,7 @@ returns c =
     let rs = c .before .before .args .t1 in
     let x = c .before .before .args .x in
     let l : length rs ≡ 8 = search needs in
-    filled-all (c .before .loop .inv .1) (search needs) (map (λ row. rowValue row x) rs) (length-map rs (λ row. rowValue row x) ∙ l) (λ k p. getD-mapped (λ row. rowValue row x) rs k (omega arith))
+    filled-all (c .before .loop .inv .1) (search needs) (map (λ row. rowValue row x) rs) (length-map rs (λ row. rowValue row x) ∙ l) (λ k p. getD-mapped (λ row. rowValue row x) rs k noRow (pos 0) (omega arith))
 
 pub values-spec : {M : Type 1} → statement M
 values-spec =
