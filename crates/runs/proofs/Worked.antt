@@ -10,7 +10,7 @@ use Rattle.rows.specs.declared.Row.{Row}
 use Rattle.rows.specs.declared.Range.{Range}
 use Rattle.rows.specs.Rows.{dot}
 use Rattle.grammar.specs.Programs.{Assignment, Action, Program}
-use Rattle.runs.specs.Runs.{Start, allHold, lowestOff, put, run, Safe, SafeRun, Ending, Finished, RanOff, agrees, someAgrees}
+use Rattle.runs.specs.Runs.{Start, allHold, lowestOff, put, run, Safe, SafeRun, Ending, Finished, RanOff}
 
 -- a row of the first two variables
 row2 : ℤ → ℤ → ℤ → Row

@@ -6,12 +6,13 @@
 -- enabled           — an action may be taken
 -- put, assigned     — the values that assignments give, from the old ones and at once
 -- Outcome, landed, actionOf, step — what trying an action does
--- has, agrees, someAgrees, forbidden — a state meets a combination; some combination
+-- has, rowIf, literalRows — the rows of a set's literals
+-- meets, someMet, forbidden — a state meets all literals of a set; of some combination
 -- Ending, Run, onward, run — the states of a run over any list of actions, its moves, and how it ended
 -- SafeRun, Safe     — the safety statement: of one run; of all runs
 use mathlib.Core.Path.{_≡_}
-use mathlib.Core.Bool.{Bool, true, false, cond, _&&_, _||_, not}
-use mathlib.Core.List.{List, [], _∷_}
+use mathlib.Core.Bool.{Bool, true, false, cond, _&&_, _||_}
+use mathlib.Core.List.{List, [], _∷_, _++_}
 use Prim.Native.Nat.{ℕ, zero, suc, _+_, _/_, _%_, _^_, _<_}
 use lib.Dec.{eqb, ltb}
 use lib.IntN.{ℤ, pos}
@@ -20,7 +21,7 @@ use lib.ListN.{length, getD, set}
 use Rattle.words.specs.declared.Literals.{Literals}
 use Rattle.rows.specs.declared.Row.{Row}
 use Rattle.rows.specs.declared.Range.{Range}
-use Rattle.rows.specs.Rows.{rowValue}
+use Rattle.rows.specs.Rows.{rowValue, negated}
 use Rattle.grammar.specs.Programs.{Assignment, Action, Program}
 use Rattle.grammar.specs.WellFormed.{Each}
 
@@ -77,21 +78,27 @@ actionOf p k = getD (p .actions) k (record { guards = []; sets = [] })
 abbrev pub step : Program → ℕ → List ℤ → Outcome
 step p k s = cond (enabled (actionOf p k) s) (landed (p .ranges) (assigned (actionOf p k) s)) NotEnabled
 
--- A state meets a combination when each predicate known true holds and each known false does not.
+-- A literal is a predicate or its negation. The literals of a set, by rising predicate from i on.
 abbrev pub has : ℕ → ℕ → Bool
 has j set = eqb (set / 2 ^ j % 2) 1
 
-unfoldable pub agrees : ℕ → List Row → ℕ → List ℤ → Bool
-agrees i [] set s = true
-agrees i (r ∷ rs) set s = not (has i set && not (holds r s)) && not (has (14 + i) set && holds r s) && agrees (suc i) rs set s
+abbrev pub rowIf : Bool → Row → List Row
+rowIf b r = cond b (r ∷ []) []
+
+unfoldable pub literalRows : ℕ → List Row → ℕ → List Row
+literalRows i [] set = []
+literalRows i (r ∷ rs) set = rowIf (has i set) r ++ (rowIf (has (14 + i) set) (negated r) ++ literalRows (suc i) rs set)
 
 -- A state is forbidden when it meets all literals of some forbidden combination.
-unfoldable pub someAgrees : List Row → List Literals → List ℤ → Bool
-someAgrees rs [] s = false
-someAgrees rs (l ∷ ls) s = agrees 0 rs (l .0) s || someAgrees rs ls s
+abbrev pub meets : List Row → Literals → List ℤ → Bool
+meets rs l s = allHold (literalRows 0 rs (l .0)) s
+
+unfoldable pub someMet : List Row → List Literals → List ℤ → Bool
+someMet rs [] s = false
+someMet rs (l ∷ ls) s = meets rs l s || someMet rs ls s
 
 abbrev pub forbidden : Program → List ℤ → Bool
-forbidden p s = someAgrees (p .predicates) (p .forbidden) s
+forbidden p s = someMet (p .predicates) (p .forbidden) s
 
 -- Any list of actions is tried, each on the state that the last one left. The run's states are the first and each one left.
 pub data Ending : Type 0 where
