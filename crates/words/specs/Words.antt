@@ -54,6 +54,12 @@ SET = 7
 abbrev pub SETS : ℕ
 SETS = 8
 
+abbrev pub LEMMA : ℕ
+LEMMA = 9
+
+abbrev pub MULT : ℕ
+MULT = 10
+
 abbrev pub END : ℕ
 END = 15
 

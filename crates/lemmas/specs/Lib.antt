@@ -1,0 +1,3 @@
+pub mod Lemmas
+pub mod LemmaGrammar
+pub mod Truth

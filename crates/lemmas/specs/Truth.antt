@@ -1,0 +1,30 @@
+-- What a lemma says of all whole numbers in the ranges. Nothing here knows of multipliers or sums.
+--
+-- happens — the source may happen at a state: the action is enabled, or the state meets the start rows
+-- Claim   — what a goal says of the state afterwards
+-- True    — what a lemma says
+use mathlib.Core.Path.{_≡_}
+use mathlib.Core.Bool.{Bool, true, false}
+use mathlib.Core.List.{List}
+use Prim.Native.Nat.{ℕ, zero, suc}
+use lib.IntN.{ℤ, pos}
+use lib.Signed.{_≤ℤ_}
+use lib.ListN.{getD}
+use Rattle.grammar.specs.Programs.{Program}
+use Rattle.runs.specs.Runs.{holds, allHold, Inside, assigned, actionOf, meets}
+use Rattle.lemmas.specs.Lemmas.{Lemma, sourceRows, predicate, range}
+
+abbrev pub happens : Program → ℕ → List ℤ → Bool
+happens p source s = allHold (sourceRows p source) s
+
+abbrev pub Claim : Program → ℕ → ℕ → List ℤ → Type 0
+Claim p zero i t = ⊥
+Claim p (suc zero) i t = holds (predicate p i) t ≡ true
+Claim p (suc (suc zero)) i t = holds (predicate p i) t ≡ false
+Claim p (suc (suc (suc zero))) i t = range p i .low ≤ℤ getD t i (pos 0)
+Claim p (suc (suc (suc (suc g)))) i t = getD t i (pos 0) ≤ℤ range p i .high
+
+-- Of every state in the ranges that meets the premises and at which the source may happen, the goal is true of what the assignments give.
+abbrev pub True : Program → Lemma → Type 0
+True p l = (s : List ℤ) → Inside p s → meets (p .predicates) (l .premises) s ≡ true → happens p (l .source) s ≡ true
+    → Claim p (l .goal) (l .index) (assigned (actionOf p (l .source)) s)

@@ -1,0 +1,1 @@
+// Lemmas: reading them.
