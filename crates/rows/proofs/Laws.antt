@@ -1,25 +1,26 @@
--- Laws of a row: its value and the loop that computes it, its largest value over the ranges, its negation. Assumes nothing.
+-- Laws of a row: its value and the loop that adds its products, its largest value over the ranges, its negation. Assumes nothing.
 use mathlib.Core.Path.{_≡_, refl, sym, ap, _∙_}
 use mathlib.Core.Bool.{true, false}
-use mathlib.Core.List.{List, [], _∷_, map}
+use mathlib.Core.List.{List, [], _∷_, _++_, map}
 use mathlib.Core.Logic.{_↔_}
 use Prim.Native.Nat.{ℕ, zero, suc, zero-le, _+_, _*_, _<_, _≤_}
-use native.Mathlib.Nat.{not-suc-le-zero, le-of-suc-le-suc}
+use native.Mathlib.Nat.{not-suc-le-zero, le-of-suc-le-suc, zero-add}
 use native.Mathlib.Numerals.{add-one}
 use native.Mathlib.Omega.{arith}
 use borrow.Author.Tests.{ltb-true}
 use lib.Dec.{le→leb}
-use lib.IntN.{ℤ, pos, negsuc, negℤ, _+ℤ_, _-ℤ_, _*ℤ_, +ℤ-assoc, +ℤ-comm, +ℤ-idr}
-use lib.ListN.{length, getD, drop, drop-of-length-le}
-use lib.Seq.{drop-cons}
+use lib.IntN.{ℤ, pos, negsuc, negℤ, _+ℤ_, _-ℤ_, _*ℤ_, +ℤ-assoc, +ℤ-idl, +ℤ-idr}
+use lib.ListN.{length, getD, drop, replicate, drop-of-length-le, length-replicate}
+use lib.Seq.{drop-cons, sets, sets-eq}
 use lib.Signed.{ltZ, _≤ℤ_, ≤ℤ-refl, leZ-yes}
 use mir.Syntax.{w64}
 use mir.Val.{SFits}
 use Rattle.integers.proofs.Int.{up, dn, var, num, _⊕_, _⊗_, ⊖, le-in, equal, below, law}
-use Rattle.integers.proofs.Laws.{Within, sum, product, within-fits, zero-within, add-le, mul-le, mul-ge}
+use Rattle.integers.proofs.Laws.{Within, sum, product, within-fits, within-weaken, zero-within, add-le, mul-le, mul-ge}
 use Rattle.rows.specs.declared.Row.{Row}
 use Rattle.rows.specs.declared.Range.{Range}
-use Rattle.rows.specs.Rows.{dot, rowValue, Holds, negated, endUnder, ends, largestValue, InRanges, in-none, in-one, small, maxCoef, maxConst, maxState, Small, zeroRange, smallRanges}
+use Rattle.rows.specs.Rows.{dot, rowValue, Holds, negated, endUnder, ends, largestValue, InRanges, in-none, in-one, zeroRange}
+use Rattle.rows.specs.Bounds.{small, maxCoef, maxState, smallRanges}
 
 -- one product more
 dot-next : (xs ys : List ℤ) (i : ℕ) → i < length xs → i < length ys
@@ -32,46 +33,54 @@ dot-end : (xs ys : List ℤ) (i : ℕ) → length xs ≤ i → dot (drop i xs) (
 unfolding dot
 dot-end xs ys i h = rw (drop-of-length-le xs {i = i} h) refl
 
--- s is the constant and the first i products; every number is small
-pub record Partial (r : Row) (x : List ℤ) (i : ℕ) (s : ℤ) : Type 0 where
-  pub rest : s +ℤ dot (drop i (r .coef)) (drop i x) ≡ rowValue r x
-  pub bound : Within (maxConst + i * (maxCoef * maxState)) s
+-- s is the first i products; every number is small
+pub record Partial (bs xs : List ℤ) (i : ℕ) (s : ℤ) : Type 0 where
+  pub rest : s +ℤ dot (drop i bs) (drop i xs) ≡ dot bs xs
+  pub bound : Within (i * (maxCoef * maxState)) s
 
 -- one turn: a and b are multiplied and added to s
-pub record Turn (r : Row) (x : List ℤ) (i : ℕ) (s a b : ℤ) : Type 0 where
+pub record Turn (bs xs : List ℤ) (i : ℕ) (s a b : ℤ) : Type 0 where
   pub a-fits : SFits w64 a
   pub b-fits : SFits w64 b
   pub product-fits : SFits w64 (a *ℤ b)
   pub sum-fits : SFits w64 (s +ℤ a *ℤ b)
-  pub next : Partial r x (i + 1) (s +ℤ a *ℤ b)
+  pub next : Partial bs xs (i + 1) (s +ℤ a *ℤ b)
 
-module _ {r : Row} {x : List ℤ} (hr : Small r) (hx : small maxState x) where
-  pub started : Partial r x 0 (r .constant)
-  started = record { rest = +ℤ-comm (r .constant) (dot (r .coef) x); bound = hr .const }
+pub started : (bs xs : List ℤ) → Partial bs xs 0 (pos 0)
+started bs xs = record { rest = +ℤ-idl (dot bs xs); bound = zero-within (0 * (maxCoef * maxState)) }
 
-  pub turn : {i : ℕ} {s : ℤ} → Partial r x i s → i < 8 → i < length (r .coef) → i < length x
-      → Turn r x i s (getD (r .coef) i (pos 0)) (getD x i (pos 0))
-  turn {i} {s} p h lr lx =
-      let a = getD (r .coef) i (pos 0) in
-      let b = getD x i (pos 0) in
-      let f = product (hr .coefs i) (hx i) in
-      let g = sum (p .bound) f in
-      let e = dot-next (r .coef) x i lr lx in
-      let m : maxConst + i * (maxCoef * maxState) + maxCoef * maxState ≡ maxConst + (i + 1) * (maxCoef * maxState) = omega arith in
-      record {
-        a-fits = within-fits w64 (omega arith) (hr .coefs i);
-        b-fits = within-fits w64 (omega arith) (hx i);
-        product-fits = within-fits w64 (omega arith) f;
-        sum-fits = within-fits w64 (omega arith) g;
-        next = record {
-          rest = +ℤ-assoc s (a *ℤ b) (dot (drop (i + 1) (r .coef)) (drop (i + 1) x)) ∙ rw (← e) (p .rest);
-          bound = rw m at g;
-        };
-      }
+pub turn : {bs xs : List ℤ} (hb : small maxCoef bs) (hx : small maxState xs) {i : ℕ} {s : ℤ} → Partial bs xs i s → i < 8 → i < length bs → i < length xs
+    → Turn bs xs i s (getD bs i (pos 0)) (getD xs i (pos 0))
+turn {bs} {xs} hb hx {i} {s} p h lb lx =
+    let a = getD bs i (pos 0) in
+    let b = getD xs i (pos 0) in
+    let f = product (hb i) (hx i) in
+    let g = sum (p .bound) f in
+    let e = dot-next bs xs i lb lx in
+    let m : i * (maxCoef * maxState) + maxCoef * maxState ≡ (i + 1) * (maxCoef * maxState) = omega arith in
+    record {
+      a-fits = within-fits w64 (omega arith) (hb i);
+      b-fits = within-fits w64 (omega arith) (hx i);
+      product-fits = within-fits w64 (omega arith) f;
+      sum-fits = within-fits w64 (omega arith) g;
+      next = record {
+        rest = +ℤ-assoc s (a *ℤ b) (dot (drop (i + 1) bs) (drop (i + 1) xs)) ∙ rw (← e) (p .rest);
+        bound = rw m at g;
+      };
+    }
 
--- after the last turn s is the value
-pub ended : {r : Row} {x : List ℤ} {i : ℕ} {s : ℤ} → Partial r x i s → length (r .coef) ≤ i → s ≡ rowValue r x
-ended {r} {x} {i} {s} p h = sym (+ℤ-idr s) ∙ rw (← dot-end (r .coef) x i h) (p .rest)
+-- after the last turn s is the whole sum
+pub ended : {bs xs : List ℤ} {i : ℕ} {s : ℤ} → Partial bs xs i s → length bs ≤ i → s ≡ dot bs xs
+ended {bs} {xs} {i} {s} p h = sym (+ℤ-idr s) ∙ rw (← dot-end bs xs i h) (p .rest)
+
+-- the bound of the whole sum
+pub dot-within : (bs xs : List ℤ) (n : ℕ) → length bs ≡ n → small maxCoef bs → small maxState xs → Within (n * (maxCoef * maxState)) (dot bs xs)
+unfolding dot
+dot-within [] xs n l hb hx = zero-within (n * (maxCoef * maxState))
+dot-within (b ∷ bs) [] n l hb hx = zero-within (n * (maxCoef * maxState))
+dot-within (b ∷ bs) (x ∷ xs) zero l hb hx = absurd (omega arith)
+dot-within (b ∷ bs) (x ∷ xs) (suc n) l hb hx =
+    within-weaken (omega arith) (sum (product (hb 0) (hx 0)) (dot-within bs xs n (omega arith) (λ k. hb (suc k)) (λ k. hx (suc k))))
 
 -- ---- the corner at which a row is largest
 -- the test of the sign picks the end
@@ -120,6 +129,31 @@ dot-below (b ∷ bs) (in-one {g = g} p q r) = add-le (term-below b g p q) (dot-b
 
 pub largest-is : (r : Row) {gs : List Range} {xs : List ℤ} → InRanges gs xs → rowValue r xs ≤ℤ largestValue r gs
 largest-is r p = add-le (dot-below (r .coef) p) (≤ℤ-refl (r .constant))
+
+-- ---- ranges from 0 to 0 past the last variable change nothing
+end-zero : (a : ℤ) → endUnder a zeroRange ≡ pos 0
+end-zero (pos a) = refl
+end-zero (negsuc a) = refl
+
+dot-zeros : (bs : List ℤ) (n : ℕ) → dot bs (ends bs (replicate n zeroRange)) ≡ pos 0
+unfolding dot ends
+dot-zeros [] n = refl
+dot-zeros (b ∷ bs) zero = refl
+dot-zeros (b ∷ bs) (suc n) = rw (end-zero b, dot-zeros bs n) (equal (var b ⊗ num 0 ⊕ num 0) (num 0) (omega arith))
+
+dot-padded : (bs : List ℤ) (gs : List Range) (n : ℕ) → length gs ≤ n
+    → dot bs (ends bs (gs ++ drop (length gs) (replicate n zeroRange))) ≡ dot bs (ends bs gs)
+unfolding dot ends
+dot-padded [] gs n h = refl
+dot-padded (b ∷ bs) [] n h = dot-zeros (b ∷ bs) n
+dot-padded (b ∷ bs) (g ∷ gs) zero h = absurd (omega arith)
+dot-padded (b ∷ bs) (g ∷ gs) (suc n) h = rw (dot-padded bs gs n (le-of-suc-le-suc h))
+
+-- the ranges stored at the front of an array of n
+pub largest-stored : (r : Row) (gs : List Range) (n : ℕ) → length gs ≤ n → largestValue r (sets (replicate n zeroRange) 0 gs) ≡ largestValue r gs
+largest-stored r gs n h =
+    let room : 0 + length gs ≤ length (replicate n zeroRange) = simp length-replicate (omega arith) in
+    rw (sets-eq gs (replicate n zeroRange) 0 room, zero-add (length gs), dot-padded (r .coef) gs n h)
 
 -- ---- the negated row: its value, and where it holds
 dot-negated : (bs xs : List ℤ) → dot (map negℤ bs) xs ≡ negℤ (dot bs xs)

@@ -3,7 +3,8 @@ ghost use mathlib.Core.Path.{_≡_};
 ghost use lib.IntN.{_+ℤ_, _-ℤ_, _*ℤ_};
 ghost use mir.Syntax.{w64};
 ghost use mir.Val.{SFits};
-ghost use Rattle.rows.specs.Rows.{rowValue, negated, Small, small, smallRanges, maxState, endUnder, ends, largestValue};
+ghost use Rattle.rows.specs.Rows.{dot, rowValue, negated, endUnder, ends, largestValue, exact};
+ghost use Rattle.rows.specs.Bounds.{Small, small, smallRanges, maxCoef, maxState};
 
 // Eight coefficients, an absent one being zero, and a constant.
 pub struct Row {
@@ -17,6 +18,12 @@ pub struct Range {
     pub high: i64,
 }
 
+// A number, or that signed 64 bits do not hold it.
+pub enum Exact {
+    Value(i64),
+    Off,
+}
+
 // The sum with one product more, where both fit.
 pub fn with_term(sum: i64, a: i64, b: i64) -> i64
     requires { ⌜ SFits w64 (a *ℤ b) ⌝ }
@@ -26,21 +33,32 @@ pub fn with_term(sum: i64, a: i64, b: i64) -> i64
     sum + a * b
 }
 
+// Coefficients times variables.
+fn products(coef: [i64; 8], x: [i64; 8]) -> i64
+    requires { ⌜ small maxCoef coef ⌝ }
+    requires { ⌜ small maxState x ⌝ }
+    ensures { λ r. ⌜ r ≡ dot coef x ⌝ }
+{
+    let mut s: i64 = 0;
+    let mut i: usize = 0;
+    while i < 8 {
+        let a = coef[i];
+        let b = x[i];
+        s = with_term(s, a, b);
+        i += 1;
+    }
+    s
+}
+
 // The row's value at a state.
 pub fn value(row: Row, state: [i64; 8]) -> i64
     requires { ⌜ Small row ⌝ }
     requires { ⌜ small maxState state ⌝ }
     ensures { λ r. ⌜ r ≡ rowValue row state ⌝ }
 {
-    let mut sum = row.constant;
-    let mut i: usize = 0;
-    while i < 8 {
-        let a = row.coef[i];
-        let x = state[i];
-        sum = with_term(sum, a, x);
-        i += 1;
-    }
-    sum
+    let coef = row.coef;
+    let constant = row.constant;
+    products(coef, state) + constant
 }
 
 // s less a, where that fits.
@@ -88,12 +106,32 @@ fn corner(coef: [i64; 8], ranges: [Range; 8]) -> [i64; 8]
     out
 }
 
-// The largest value of the row over the ranges.
-pub fn largest(row: Row, ranges: [Range; 8]) -> i64
-    requires { ⌜ Small row ⌝ }
+// The sum, where signed 64 bits hold it.
+fn sum(a: i64, b: i64) -> Exact
+    ensures { λ r. ⌜ r ≡ exact (a +ℤ b) ⌝ }
+{
+    if b < 0 {
+        if a < -9223372036854775808 - b {
+            Exact::Off
+        } else {
+            Exact::Value(a + b)
+        }
+    } else {
+        if 9223372036854775807 - b < a {
+            Exact::Off
+        } else {
+            Exact::Value(a + b)
+        }
+    }
+}
+
+// The largest value of the row over the ranges, where signed 64 bits hold it.
+pub fn largest(row: Row, ranges: [Range; 8]) -> Exact
+    requires { ⌜ small maxCoef (row .coef) ⌝ }
     requires { ⌜ smallRanges ranges ⌝ }
-    ensures { λ r. ⌜ r ≡ largestValue row ranges ⌝ }
+    ensures { λ r. ⌜ r ≡ exact (largestValue row ranges) ⌝ }
 {
     let coef = row.coef;
-    value(row, corner(coef, ranges))
+    let constant = row.constant;
+    sum(products(coef, corner(coef, ranges)), constant)
 }

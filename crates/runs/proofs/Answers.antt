@@ -10,7 +10,8 @@ use lib.Seq.{sets, take-at}
 use borrow.Author.Tests.{lt-ltb, le-ltb, eq-eqb, ne-eqb}
 use Rattle.words.specs.declared.Refusal.{Refusal}
 use Rattle.words.specs.declared.Refusal.the-variants.{Absent, Length, State}
-use Rattle.rows.specs.Rows.{small, smallRanges, maxState, zeroRange}
+use Rattle.rows.specs.Rows.{zeroRange}
+use Rattle.rows.specs.Bounds.{small, smallRanges, maxState}
 use Rattle.grammar.specs.Reading.{Read, got, refused}
 use Rattle.grammar.specs.Programs.{Action, Program}
 use Rattle.grammar.specs.Grammar.{action}

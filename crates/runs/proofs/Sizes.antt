@@ -13,7 +13,8 @@ use Rattle.integers.proofs.Int.{var, num, _⊕_, _⊗_, equal}
 use Rattle.integers.proofs.Laws.{Within, within-weaken, literal, zero-within, le-trans}
 use Rattle.rows.specs.declared.Row.{Row}
 use Rattle.rows.specs.declared.Range.{Range}
-use Rattle.rows.specs.Rows.{dot, rowValue, small, maxCoef, maxConst, maxState, Small, SmallRange, smallRanges, zeroRange}
+use Rattle.rows.specs.Rows.{dot, rowValue, zeroRange}
+use Rattle.rows.specs.Bounds.{small, maxCoef, maxConst, maxState, Small, SmallRange, smallRanges}
 use Rattle.grammar.specs.Programs.{Assignment, Action, Program}
 use Rattle.grammar.specs.WellFormed.{Between, Each, Few, RangeOk, RowOk, SetOk, Rising, ActionOk, WellFormed}
 use Rattle.reader.specs.Results.{zeroRow, zeroRows}

@@ -17,7 +17,8 @@ use Rattle.integers.proofs.Laws.{Within, within-fits, le-trans, zero-within}
 use Rattle.integers.proofs.Tests.{leZ-true, and-true}
 use Rattle.rows.specs.declared.Row.{Row}
 use Rattle.rows.specs.declared.Range.{Range}
-use Rattle.rows.specs.Rows.{dot, rowValue, small, maxState, SmallRange, smallRanges, zeroRange}
+use Rattle.rows.specs.Rows.{dot, rowValue, zeroRange}
+use Rattle.rows.specs.Bounds.{small, maxState, SmallRange, smallRanges}
 use Rattle.grammar.specs.Programs.{Assignment, Action}
 use Rattle.grammar.specs.WellFormed.{Each}
 use Rattle.runs.specs.Runs.{holds, within, lowestOff, allHold, put}

@@ -11,7 +11,8 @@ use lib.IntN.{ℤ, pos}
 use lib.ListN.{length, getD, take, replicate}
 use Rattle.rows.specs.declared.Row.{Row}
 use Rattle.rows.specs.declared.Range.{Range}
-use Rattle.rows.specs.Rows.{rowValue, Small}
+use Rattle.rows.specs.Rows.{rowValue}
+use Rattle.rows.specs.Bounds.{Small}
 use Rattle.actions.specs.declared.ActionRead.{ActionRead}
 use Rattle.runs.specs.declared.Stepped.the-variants.{Moved, NotEnabled, RunsOff}
 use Rattle.runs.specs.Runs.{allHold, lowestOff}
