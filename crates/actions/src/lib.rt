@@ -72,7 +72,7 @@ pub struct Sets {
 }
 
 // The rows that keep every variable.
-const KEEP: [Row; 8] = [
+pub const KEEP: [Row; 8] = [
     Row {
         coef: [1, 0, 0, 0, 0, 0, 0, 0],
         constant: 0,

@@ -1,15 +1,15 @@
 -- A lemma and its words: reading the words of well-formed lemmas gives them, and an accepted list is the words of what was read.
 use mathlib.Core.Path.{_≡_, refl, sym, ap, _∙_, subst}
-use mathlib.Core.Bool.{Bool, true, false, _&&_, _||_, not}
+use mathlib.Core.Bool.{Bool, true, false, _&&_, _||_}
 use mathlib.Core.Logic.{_⊎_, inl, inr, ⊎-elim}
 use mathlib.Core.List.{List, [], _∷_, _++_, append-nil}
 use Prim.Native.Nat.{ℕ, zero, suc, _+_, _*_, _^_, _≤_, _<_, _/_}
 use native.Mathlib.Omega.{arith}
 use lib.Dec.{eqb, ltb, leb}
 use lib.ListN.{length, getD}
-use borrow.Author.Tests.{eqb-true, eq-eqb, ltb-true, leb-true, le-leb}
+use borrow.Author.Tests.{eqb-true, ltb-true, leb-true, le-leb}
 use Rattle.integers.proofs.Tests.{and-true}
-use Rattle.words.specs.Words.{bits, kindOf, payload, word, literalsOf, LEMMA, SETS, MULT, TERM}
+use Rattle.words.specs.Words.{bits, kindOf, payload, word, LEMMA, SETS, MULT, TERM}
 use Rattle.words.proofs.Laws.{kind-word, payload-word, word-split}
 use Rattle.grammar.specs.Reading.{Read, got, refused, one, always, begins, times, many}
 use Rattle.grammar.specs.Programs.{Assignment, Action, Program}
@@ -44,16 +44,16 @@ or-true : (a b : Bool) → (a || b) ≡ true → (a ≡ true) ⊎ (b ≡ true)
 or-true true b e = inl refl
 or-true false b e = inr e
 
-false-true : {P : Type 0} → false ≡ true → P
+pub false-true : {P : Type 0} → false ≡ true → P
 false-true e = let z : _≡_ {A = ℕ} 0 1 = cc in absurd (omega arith)
 
-sets-known : (vars v : ℕ) (ss : List Assignment) (i : ℕ) → Rising vars v ss → setsVariable ss i ≡ true → i < vars
+pub sets-known : (vars v : ℕ) (ss : List Assignment) (i : ℕ) → Rising vars v ss → setsVariable ss i ≡ true → i < vars
 unfolding setsVariable
 sets-known vars v [] i r e = false-true e
 sets-known vars v (s ∷ ss) i r e =
     ⊎-elim (λ q. rw (← eqb-true (s .variable) i q) (r .0 .below)) (sets-known vars (suc (s .variable)) ss i (r .1)) (or-true (eqb (s .variable) i) (setsVariable ss i) e)
 
-action-rising : (vars : ℕ) (xs : List Action) (k : ℕ) → Each (ActionOk vars) xs → Rising vars 0 (getD xs k noneAction .sets)
+pub action-rising : (vars : ℕ) (xs : List Action) (k : ℕ) → Each (ActionOk vars) xs → Rising vars 0 (getD xs k noneAction .sets)
 action-rising vars [] k p = tt
 action-rising vars (x ∷ xs) zero p = p .0 .rising
 action-rising vars (x ∷ xs) (suc k) p = action-rising vars xs k (p .1)

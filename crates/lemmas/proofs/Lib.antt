@@ -1,1 +1,5 @@
 pub mod LemmaLaws
+pub mod SourceLaws
+pub mod HeadLaws
+pub mod ListLaws
+pub mod Sound

@@ -51,7 +51,7 @@ headAllowed p w = eqb (bits 15 8 w) 0 && sourceAllowed p (bits 27 20 w) && goalA
 
 -- Its SETS obeys the rules of a forbidden combination; the start's premises must be empty.
 abbrev pub premisesAllowed : Program → ℕ → ℕ → Bool
-premisesAllowed p source w = literalsAllowed (length (p .predicates)) w && (not (eqb source START) || eqb (payload w) 0)
+premisesAllowed p source set = literalsAllowed (length (p .predicates)) set && (not (eqb source START) || eqb set 0)
 
 -- MULT: 0 to 65,535
 abbrev pub multiplier : Reader ℕ

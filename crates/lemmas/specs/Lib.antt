@@ -1,3 +1,4 @@
 pub mod Lemmas
 pub mod LemmaGrammar
 pub mod Truth
+pub mod Sources

@@ -1,1 +1,342 @@
-// Lemmas: reading them.
+// Lemmas: reading a list of them over a program that has been read.
+ghost use mathlib.Core.Path.{_≡_};
+ghost use Prim.Native.Nat.{_+_, _<_, _≤_, _^_};
+ghost use lib.ListN.{length, drop, getD, replicate};
+ghost use Rattle.words.specs.Words.{payload, LEMMA};
+ghost use Rattle.grammar.specs.Reading.{times, many, refused};
+ghost use mathlib.Core.Bool.{false, _||_};
+ghost use lib.Dec.{eqb, ltb};
+ghost use Rattle.lemmas.specs.Lemmas.{START};
+ghost use Rattle.reader.specs.Results.{nextOf};
+ghost use Rattle.runs.specs.Runs.{has};
+ghost use Rattle.lemmas.specs.LemmaGrammar.{multiplier, lemma, asLemma, readLemmas};
+ghost use Rattle.lemmas.specs.Sources.{theProgram, Held, sourceOf, goalBy, headBy, premisesBy, literalCount, rowCount, oneIf, lemmaRead, noBegins, beginsFrom, listed};
+use programs::Image;
+use programs::Status;
+use reader::Next;
+use rows::Row;
+use words::Kind;
+use words::Literals;
+use words::Refusal;
+
+// What a lemma's source offers: its rows from place 0 on, each variable's row afterwards, and which variables it sets.
+pub struct Source {
+    pub count: usize,
+    pub rows: [Row; 14],
+    pub new: [Row; 8],
+    pub set: [bool; 8],
+}
+
+// The source of this number: an action, or 255 for the start. Another one offers nothing.
+pub fn source_of(words: &[u32], image: Image, number: usize) -> Source
+    requires { ⌜ Held (now words) image ⌝ }
+    ensures { λ r. ⌜ r ≡ sourceOf (theProgram (now (words .entry))) number ⌝ }
+{
+    let new = actions::KEEP;
+    let set = [false; 8];
+    if number == 255 {
+        let count = image.starts;
+        let rows = image.start;
+        return Source {
+            count,
+            rows,
+            new,
+            set,
+        };
+    }
+    let actions = image.actions;
+    if actions <= number {
+        let blank = Row {
+            coef: [0i64; 8],
+            constant: 0,
+        };
+        let rows = [blank; 14];
+        return Source {
+            count: 0,
+            rows,
+            new,
+            set,
+        };
+    }
+    let at = image.action_at[number];
+    let vars = image.vars;
+    let read = actions::read_action(words, at, vars, true);
+    let count = read.guards;
+    let rows = read.guard;
+    let new = read.rows;
+    let set = read.set;
+    Source {
+        count,
+        rows,
+        new,
+        set,
+    }
+}
+
+fn is_set(set: [bool; 8], v: usize) -> bool
+    ensures { λ r. ⌜ r ≡ getD set v false ⌝ }
+{
+    if v < 8 { set[v] } else { false }
+}
+
+// May a lemma have this goal and index, in a program of so many predicates, from a source that sets these variables?
+fn goal_allowed(preds: usize, set: [bool; 8], goal: usize, index: usize) -> bool
+    ensures { λ r. ⌜ r ≡ goalBy preds set goal index ⌝ }
+{
+    if goal == 0 {
+        return index == 0;
+    }
+    if goal <= 2 {
+        return index < preds;
+    }
+    if goal <= 4 {
+        return is_set(set, index);
+    }
+    false
+}
+
+// Is this the start, or one of so many actions?
+fn source_allowed(source: usize, actions: usize) -> bool
+    ensures { λ r. ⌜ r ≡ (eqb source START || ltb source actions) ⌝ }
+{
+    if source == 255 {
+        true
+    } else {
+        source < actions
+    }
+}
+
+// May a LEMMA word say this, in a program of so many actions and predicates, where its source sets these variables?
+fn head_allowed(w: u32, actions: usize, preds: usize, set: [bool; 8]) -> bool
+    ensures { λ r. ⌜ r ≡ headBy actions preds set w ⌝ }
+{
+    if w / 256 % 256 != 0 {
+        return false;
+    }
+    if !source_allowed(words::source(w), actions) {
+        return false;
+    }
+    goal_allowed(preds, set, words::goal(w), words::index(w))
+}
+
+// May these be the premises of a lemma of this source?
+fn premises_allowed(set: u32, preds: usize, source: usize) -> bool
+    requires { ⌜ preds ≤ 14 ⌝ }
+    ensures { λ r. ⌜ r ≡ premisesBy preds source set ⌝ }
+{
+    if !programs::literals_allowed(set, preds) {
+        return false;
+    }
+    if source == 255 { set == 0 } else { true }
+}
+
+// 1 if the literal at a place is in the set, else 0.
+fn bit(set: u32, place: usize) -> usize
+    requires { ⌜ place < 32 ⌝ }
+    ensures { λ r. ⌜ (r ≡ oneIf (has place set)) × (r ≤ 1) ⌝ }
+{
+    if (set >> place) % 2 == 1 { 1 } else { 0 }
+}
+
+// How many literals of n predicates are in the set.
+fn count_literals(set: u32, n: usize) -> usize
+    requires { ⌜ n ≤ 14 ⌝ }
+    ensures { λ r. ⌜ (r ≡ literalCount 0 n set) × (r ≤ 28) ⌝ }
+{
+    let mut total: usize = 0;
+    let mut i: usize = 0;
+    while i < n {
+        total = total + bit(set, i) + bit(set, 14 + i);
+        i += 1;
+    }
+    total
+}
+
+// How many rows a lemma has, and so how many MULT words.
+fn count_rows(goal: usize, preds: usize, set: u32, count: usize) -> usize
+    requires { ⌜ (preds ≤ 14) × (count ≤ 14) ⌝ }
+    ensures { λ r. ⌜ r ≡ rowCount goal preds set count ⌝ }
+{
+    let literals = count_literals(set, preds);
+    if goal == 0 {
+        literals + count
+    } else {
+        1 + literals + count
+    }
+}
+
+// The n MULT words from an index on.
+fn read_mults(lemmas: &[u32], at: usize, n: usize) -> Next
+    requires { ⌜ at ≤ length (now lemmas) ⌝ }
+    ensures { λ r. ⌜ r ≡ nextOf (times n multiplier (drop at (now (lemmas .entry))) at) ⌝ }
+{
+    let mut i = at;
+    let mut k: usize = 0;
+    while k < n {
+        let w = reader::word_at(lemmas, i);
+        let next = reader::read_word(lemmas, i, i, Kind::MULT, true, true, w % 268435456 <= 65535);
+        if let Next::Refused(why) = next {
+            return Next::Refused(why);
+        }
+        i += 1;
+        k += 1;
+    }
+    Next::At(i)
+}
+
+// A lemma without its multipliers, and where reading goes on. Its first MULT word is the third of its words.
+pub struct LemmaRead {
+    pub source: usize,
+    pub goal: usize,
+    pub index: usize,
+    pub premises: Literals,
+    pub next: Next,
+}
+
+fn no_lemma(why: Refusal) -> LemmaRead
+    ensures { λ r. ⌜ r ≡ lemmaRead (refused why) ⌝ }
+{
+    LemmaRead {
+        source: 0,
+        goal: 0,
+        index: 0,
+        premises: Literals::EMPTY,
+        next: Next::Refused(why),
+    }
+}
+
+// The lemma at an index. `room` says whether the list may have one more.
+pub fn read_lemma(words: &[u32], image: Image, lemmas: &[u32], at: usize, room: bool) -> LemmaRead
+    requires { ⌜ Held (now words) image × (at ≤ length (now lemmas)) ⌝ }
+    ensures { λ r. ⌜ r ≡ lemmaRead (lemma (theProgram (now (words .entry))) room (drop at (now (lemmas .entry))) at) ⌝ }
+{
+    let w = reader::word_at(lemmas, at);
+    let number = words::source(w);
+    let goal = words::goal(w);
+    let source = source_of(words, image, number);
+    let actions = image.actions;
+    let preds = image.preds;
+    let set = source.set;
+    let allowed = head_allowed(w, actions, preds, set);
+    let next = reader::read_word(lemmas, at, at, Kind::LEMMA, true, room, allowed);
+    if let Next::Refused(why) = next {
+        return no_lemma(why);
+    }
+    let s = reader::word_at(lemmas, at + 1);
+    let literals = s % 268435456;
+    let fine = premises_allowed(literals, preds, number);
+    let next = reader::read_word(lemmas, at + 1, at + 1, Kind::SETS, true, true, fine);
+    if let Next::Refused(why) = next {
+        return no_lemma(why);
+    }
+    let count = source.count;
+    let after = read_mults(lemmas, at + 2, count_rows(goal, preds, literals, count));
+    match after {
+        Next::Refused(why) => no_lemma(why),
+        Next::At(j) => LemmaRead {
+            source: number,
+            goal,
+            index: words::index(w),
+            premises: Literals::of(s),
+            next: Next::At(j),
+        },
+    }
+}
+
+// Where each lemma begins, how many there are, and where reading goes on.
+pub struct Begins {
+    pub begin_at: [usize; 512],
+    pub count: usize,
+    pub next: Next,
+}
+
+fn no_begins(why: Refusal) -> Begins
+    ensures { λ r. ⌜ r ≡ noBegins why ⌝ }
+{
+    Begins {
+        begin_at: [0; 512],
+        count: 0,
+        next: Next::Refused(why),
+    }
+}
+
+// The 0 to 512 lemmas at the front of the list.
+fn read_lemmas(words: &[u32], image: Image, lemmas: &[u32]) -> Begins
+    requires { ⌜ Held (now words) image ⌝ }
+    ensures { λ r. ⌜ r ≡ beginsFrom (replicate 512 0) 0 0 (many LEMMA (lemma (theProgram (now (words .entry)))) 512 (drop 0 (now (lemmas .entry))) 0) ⌝ }
+{
+    let mut begin_at = [0usize; 512];
+    let mut i: usize = 0;
+    let mut k: usize = 0;
+    while reader::begins(lemmas, i, Kind::LEMMA) {
+        let read = read_lemma(words, image, lemmas, i, k < 512);
+        let next = read.next;
+        match next {
+            Next::Refused(why) => {
+                return no_begins(why);
+            }
+            Next::At(j) => {
+                begin_at[k] = i;
+                i = j;
+                k += 1;
+            }
+        }
+    }
+    Begins {
+        begin_at,
+        count: k,
+        next: Next::At(i),
+    }
+}
+
+// A refusal in a lemma list: 6 for one lemma too many, 5 for any other cause.
+fn as_lemma(why: Refusal) -> Refusal
+    ensures { λ r. ⌜ r ≡ asLemma why ⌝ }
+{
+    if words::number_of(why) == 3 {
+        Refusal::Lemmas(words::value_of(why))
+    } else {
+        Refusal::Lemma(words::value_of(why))
+    }
+}
+
+// Where each lemma of a list begins and how many there are, or why it is no lemma list.
+pub struct Listed {
+    pub status: Status,
+    pub begin_at: [usize; 512],
+    pub count: usize,
+}
+
+fn not_listed(why: Refusal) -> Listed
+    ensures { λ r. ⌜ r ≡ listed (refused (asLemma why)) ⌝ }
+{
+    Listed {
+        status: Status::Failed(as_lemma(why)),
+        begin_at: [0; 512],
+        count: 0,
+    }
+}
+
+// The lemmas that a list is.
+pub fn list(words: &[u32], image: Image, lemmas: &[u32]) -> Listed
+    requires { ⌜ Held (now words) image ⌝ }
+    ensures { λ r. ⌜ r ≡ listed (readLemmas (theProgram (now (words .entry))) (now (lemmas .entry))) ⌝ }
+{
+    let read = read_lemmas(words, image, lemmas);
+    let next = read.next;
+    match next {
+        Next::Refused(why) => not_listed(why),
+        Next::At(i) => {
+            if i < lemmas.len() {
+                return not_listed(Refusal::Word(i));
+            }
+            let begin_at = read.begin_at;
+            let count = read.count;
+            Listed {
+                status: Status::Ready,
+                begin_at,
+                count,
+            }
+        }
+    }
+}

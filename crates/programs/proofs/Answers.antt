@@ -63,15 +63,15 @@ pub record Found (ws : List ℕ) (k : ℕ) (g : Image) (part : List ℕ) : Type 
 span : (ws : List ℕ) (at n : ℕ) {j : ℕ} {part : List ℕ} → at + n ≤ length ws → take n (drop at ws) ≡ part → j ≡ at + n → (at ≤ j) × (j ≤ length ws) × (take (j - at) (drop at ws) ≡ part)
 span ws at n {j} h e q = let m : j - at ≡ n = omega arith in (omega arith, omega arith, rw m e)
 
-found-in : (ws : List ℕ) (k : ℕ) (p : Program) → Accepted ws p → k < length (p .actions) → Found ws k (imageOf p) (getD (map encodeAction (p .actions)) k [])
+pub found-in : (ws : List ℕ) (k : ℕ) (p : Program) → Accepted ws p → k < length (p .actions) → Found ws k (imageOf p) (getD (map encodeAction (p .actions)) k [])
 found-in ws k p ok h =
     let few = ok .good .ranges .few in
     let most = ok .good .actions .few in
     let a = getD (p .actions) k noneAction in
-    let n = length-places (firstAction p) (p .actions) in
+    let n = length-places encodeAction (firstAction p) (p .actions) in
     let t = action-k ws p k ok h in
-    let at = getD (places (firstAction p) (p .actions)) k 0 in
-    let same : getD (sets (replicate 16 0) 0 (places (firstAction p) (p .actions))) k 0 ≡ at = stored-at 16 (places (firstAction p) (p .actions)) k (omega arith) (omega arith) in
+    let at = getD (places encodeAction (firstAction p) (p .actions)) k 0 in
+    let same : getD (sets (replicate 16 0) 0 (places encodeAction (firstAction p) (p .actions))) k 0 ≡ at = stored-at 16 (places encodeAction (firstAction p) (p .actions)) k (omega arith) (omega arith) in
     record {
       few = few;
       small = omega arith;

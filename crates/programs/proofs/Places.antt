@@ -8,12 +8,12 @@ use native.Mathlib.Nat.{not-suc-le-zero, le-of-suc-le-suc}
 use lib.ListN.{length, getD, take, drop, replicate, length-append, length-drop, length-replicate, List·getD-eq-default, List·getD-append, List·getD-map, length-map}
 use lib.Seq.{sets, sets-eq, drop-append-seam, take-append-seam, drop-drop}
 use Rattle.words.specs.Words.{TERM, INIT, PRED, ACTION}
-use Rattle.grammar.specs.Reading.{Read, got, refused, begins}
+use Rattle.grammar.specs.Reading.{Read, Reader, got, refused, begins}
 use Rattle.grammar.specs.Programs.{Action, Program}
 use Rattle.grammar.specs.Grammar.{action}
 use Rattle.grammar.specs.Encoding.{concat, encodeRange, encodeRows, encodeAction, encodeLiterals}
 use Rattle.grammar.specs.WellFormed.{Each, Few, ActionOk, WellFormed}
-use Rattle.grammar.proofs.ReadingLaws.{concat-head}
+use Rattle.grammar.proofs.ReadingLaws.{Codec, concat-head}
 use Rattle.grammar.proofs.WordLaws.{literals-codec}
 use Rattle.grammar.proofs.ActionLaws.{action-codec}
 use Rattle.grammar.proofs.ProgramLaws.{Accepted, endWords, encode-nested}
@@ -22,10 +22,11 @@ use Rattle.programs.specs.Images.{places, firstAction}
 abbrev pub noneAction : Action
 noneAction = record { guards = []; sets = [] }
 
-pub length-places : (i : ℕ) (xs : List Action) → length (places i xs) ≡ length xs
-unfolding places
-length-places i [] = refl
-length-places i (x ∷ xs) = ap suc (length-places (i + length (encodeAction x)) xs)
+module _ {A : Type 0} (e : A → List ℕ) where
+  pub length-places : (i : ℕ) (xs : List A) → length (places e i xs) ≡ length xs
+  unfolding places
+  length-places i [] = refl
+  length-places i (x ∷ xs) = ap suc (length-places (i + length (e x)) xs)
 
 -- a place of a table that was filled from the front
 pub stored-at : (n : ℕ) (ns : List ℕ) (k : ℕ) → k < length ns → length ns ≤ n → getD (sets (replicate n 0) 0 ns) k 0 ≡ getD ns k 0
@@ -33,29 +34,27 @@ stored-at n ns k h l =
     let room : 0 + length ns ≤ length {A = ℕ} (replicate n 0) = simp length-replicate (omega arith) in
     ap (λ (m : List ℕ). getD m k 0) (sets-eq ns (replicate n 0) 0 room) ∙ List·getD-append ns (drop (0 + length ns) (replicate n 0)) 0 k h
 
--- the k-th of some actions whose words stand from index i on
-module _ (vars : ℕ) (few : vars ≤ 8) (ws tail : List ℕ) (free : begins TERM tail ≡ false) where
-  pub record ActionAt (i : ℕ) (a : Action) : Type 0 where
+-- the k-th of some items whose words stand from index i on
+module _ {A : Type 0} {item : Reader A} {e : A → List ℕ} {P : A → Type 0} (c : Codec item e P) (d : A) (ws tail : List ℕ) (free : begins TERM tail ≡ false) where
+  pub record ItemAt (i : ℕ) (a : A) : Type 0 where
     pub after : List ℕ
-    pub words : drop i ws ≡ encodeAction a ++ after
-    pub read : action vars true (drop i ws) i ≡ got a after (i + length (encodeAction a))
+    pub words : drop i ws ≡ e a ++ after
+    pub read : item (drop i ws) i ≡ got a after (i + length (e a))
 
-  action-at : (i : ℕ) (xs : List Action) (k : ℕ) → drop i ws ≡ concat encodeAction xs ++ tail → Each (ActionOk vars) xs → k < length xs → ActionAt (getD (places i xs) k 0) (getD xs k noneAction)
+  pub item-at : (i : ℕ) (xs : List A) (k : ℕ) → drop i ws ≡ concat e xs ++ tail → Each P xs → k < length xs → ItemAt (getD (places e i xs) k 0) (getD xs k d)
   unfolding places concat
-  action-at i [] k e p h = absurd (not-suc-le-zero h)
-  action-at i (x ∷ xs) zero e p h =
-      let rest = concat encodeAction xs ++ tail in
-      let here : drop i ws ≡ encodeAction x ++ rest = e ∙ append-assoc (encodeAction x) (concat encodeAction xs) tail in
-      let c = action-codec vars few in
+  item-at i [] k h p l = absurd (not-suc-le-zero l)
+  item-at i (x ∷ xs) zero h p l =
+      let rest = concat e xs ++ tail in
+      let here : drop i ws ≡ e x ++ rest = h ∙ append-assoc (e x) (concat e xs) tail in
       let (j, q) = c .into x rest i (p .0) (concat-head c xs tail (p .1) free) in
-      let place = c .out (encodeAction x ++ rest) i x rest j q .place in
+      let place = c .out (e x ++ rest) i x rest j q .place in
       record { after = rest; words = here; read = rw here (rw place at q) }
-  action-at i (x ∷ xs) (suc k) e p h =
-      let rest = concat encodeAction xs ++ tail in
-      let here : drop i ws ≡ encodeAction x ++ rest = e ∙ append-assoc (encodeAction x) (concat encodeAction xs) tail in
-      let next : drop (i + length (encodeAction x)) ws ≡ rest =
-      sym (drop-drop (length (encodeAction x)) i ws) ∙ ap (drop (length (encodeAction x))) here ∙ drop-append-seam (encodeAction x) rest in
-      action-at (i + length (encodeAction x)) xs k next (p .1) (le-of-suc-le-suc h)
+  item-at i (x ∷ xs) (suc k) h p l =
+      let rest = concat e xs ++ tail in
+      let here : drop i ws ≡ e x ++ rest = h ∙ append-assoc (e x) (concat e xs) tail in
+      let next : drop (i + length (e x)) ws ≡ rest = sym (drop-drop (length (e x)) i ws) ∙ ap (drop (length (e x))) here ∙ drop-append-seam (e x) rest in
+      item-at (i + length (e x)) xs k next (p .1) (le-of-suc-le-suc l)
 
 -- action k of an accepted program: its words stand at its place, and it is read there
 pub record ActionK (ws : List ℕ) (p : Program) (k at : ℕ) : Type 0 where
@@ -64,7 +63,7 @@ pub record ActionK (ws : List ℕ) (p : Program) (k at : ℕ) : Type 0 where
   pub rest : List ℕ
   pub read : action (length (p .ranges)) true (drop at ws) at ≡ got (getD (p .actions) k noneAction) rest (at + length (encodeAction (getD (p .actions) k noneAction)))
 
-pub action-k : (ws : List ℕ) (p : Program) (k : ℕ) → Accepted ws p → k < length (p .actions) → ActionK ws p k (getD (places (firstAction p) (p .actions)) k 0)
+pub action-k : (ws : List ℕ) (p : Program) (k : ℕ) → Accepted ws p → k < length (p .actions) → ActionK ws p k (getD (places encodeAction (firstAction p) (p .actions)) k 0)
 action-k ws p k ok h =
     let good = ok .good in
     let few = good .ranges .few in
@@ -74,10 +73,10 @@ action-k ws p k ok h =
     let whole : ws ≡ front ++ (concat encodeAction (p .actions) ++ tail) = ok .words ∙ encode-nested p ∙ simp append-assoc in
     let from : drop (firstAction p) ws ≡ concat encodeAction (p .actions) ++ tail = rw whole (drop-append-seam front (concat encodeAction (p .actions) ++ tail)) in
     let a = getD (p .actions) k noneAction in
-    let t = action-at (length (p .ranges)) few ws tail free (firstAction p) (p .actions) k from (good .actions .each) h in
+    let t = item-at (action-codec (length (p .ranges)) few) noneAction ws tail free (firstAction p) (p .actions) k from (good .actions .each) h in
     let l = ap length (t .words) in
     let m = length-append (encodeAction a) (t .after) in
-    let n = length-drop (getD (places (firstAction p) (p .actions)) k 0) ws in
+    let n = length-drop (getD (places encodeAction (firstAction p) (p .actions)) k 0) ws in
     record {
       here = omega arith;
       words = rw (t .words) (take-append-seam (encodeAction a) (t .after));

@@ -127,7 +127,7 @@ module _ (vars preds : ℕ) (few : vars ≤ 8) (ws : List ℕ) (at : ℕ) (l : a
 
   module _ {j : ℕ} (h : x .next ≡ At j) where
     abbrev ActionsAt : List Action → Type 0
-    ActionsAt xs = (many ACTION (action vars) 16 (drop at ws) at ≡ got xs (drop j ws) j) × (j ≤ length ws) × (x .«begin_at» ≡ sets (replicate 16 0) 0 (places at xs)) × (x .count ≡ length xs)
+    ActionsAt xs = (many ACTION (action vars) 16 (drop at ws) at ≡ got xs (drop j ws) j) × (j ≤ length ws) × (x .«begin_at» ≡ sets (replicate 16 0) 0 (places encodeAction at xs)) × (x .count ≡ length xs)
 
     actions-at : (xs : List Action) × ActionsAt xs
     actions-at = answer-at (actionsFrom (replicate 16 0) 0 at) (λ y. y .next) (actions-next at) (many ACTION (action vars) 16 (drop at ws) at) e h (λ xs us q w.

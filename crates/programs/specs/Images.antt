@@ -3,7 +3,8 @@
 --
 -- zeroRanges, noRanges, rangesFrom      — ranges
 -- countedRead                           — rows after INIT or PRED
--- places, noActions, actionsFrom        — where actions begin
+-- places                                — where items begin
+-- noActions, actionsFrom                — where actions begin
 -- noForbidden, forbiddenFrom            — forbidden combinations
 -- firstAction                           — the index of a program's first action
 -- imageOf, noImage, loaded              — the image of a program
@@ -51,16 +52,17 @@ abbrev pub countedRead : Read (List Row) → Counted
 countedRead (got rs ws i) = record { rows = sets zeroRows 0 rs; count = length rs; next = At i }
 countedRead (refused x) = record { rows = zeroRows; count = 0; next = Stopped x }
 
--- where each of some actions begins, the first one at i
-unfoldable pub places : ℕ → List Action → List ℕ
-places i [] = []
-places i (a ∷ rest) = i ∷ places (i + length (encodeAction a)) rest
+-- where each of some items begins, the first one at i, by the words of each
+module _ {A : Type 0} (e : A → List ℕ) where
+  unfoldable pub places : ℕ → List A → List ℕ
+  places i [] = []
+  places i (a ∷ rest) = i ∷ places (i + length (e a)) rest
 
 abbrev pub noActions : Refusal → Actions
 noActions x = record { «begin_at» = replicate 16 0; count = 0; next = Stopped x }
 
 abbrev pub actionsFrom : List ℕ → ℕ → ℕ → Read (List Action) → Actions
-actionsFrom ns k i (got xs ws j) = record { «begin_at» = sets ns k (places i xs); count = k + length xs; next = At j }
+actionsFrom ns k i (got xs ws j) = record { «begin_at» = sets ns k (places encodeAction i xs); count = k + length xs; next = At j }
 actionsFrom ns k i (refused x) = noActions x
 
 abbrev pub noForbidden : Refusal → Forbidden
@@ -84,7 +86,7 @@ imageOf p =
       preds = length (p .predicates);
       pred = sets zeroRows 0 (p .predicates);
       actions = length (p .actions);
-      «action_at» = sets (replicate 16 0) 0 (places (firstAction p) (p .actions));
+      «action_at» = sets (replicate 16 0) 0 (places encodeAction (firstAction p) (p .actions));
       forbidden = length (p .forbidden);
       literals = sets (replicate 8 noLiterals) 0 (p .forbidden);
     }
@@ -146,5 +148,5 @@ imageWith gs start preds places actions literals forbidden =
 -- the image with what was read before and what follows
 abbrev pub restLoaded : Ranges → Counted → Counted → Read Rest → ℕ → Loaded
 restLoaded gs start preds (got r ws i) at =
-    imageWith gs start preds (sets (replicate 16 0) 0 (places at (r .actions))) (length (r .actions)) (sets (replicate 8 noLiterals) 0 (r .forbidden)) (length (r .forbidden))
+    imageWith gs start preds (sets (replicate 16 0) 0 (places encodeAction at (r .actions))) (length (r .actions)) (sets (replicate 8 noLiterals) 0 (r .forbidden)) (length (r .forbidden))
 restLoaded gs start preds (refused x) at = record { status = Failed x; image = noImage }

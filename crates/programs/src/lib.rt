@@ -172,7 +172,7 @@ fn no_forbidden(why: Refusal) -> Forbidden
 }
 
 // Is every predicate of a SETS word one of the program's, and none in both sets?
-fn literals_allowed(w: u32, preds: usize) -> bool
+pub fn literals_allowed(w: u32, preds: usize) -> bool
     requires { ⌜ preds ≤ 14 ⌝ }
     ensures { λ r. ⌜ r ≡ literalsAllowed preds w ⌝ }
 {

@@ -80,7 +80,7 @@ module _ (ws : List ℕ) (p : Program) {us : List ℕ} {i : ℕ} (q : read ws �
         on-range = rw (q, lt-ltb k (length (p .actions)) known, eq-eqb (length s) (length (p .ranges)) l, le-ltb (lowestOff (p .ranges) s) (length (p .ranges)) on) refl
 
         abbrev place : ℕ
-        place = getD (sets (replicate 16 0) 0 (places (firstAction p) (p .actions))) k 0
+        place = getD (sets (replicate 16 0) 0 (places encodeAction (firstAction p) (p .actions))) k 0
 
         -- action k, read from the place that the image holds
         pub record Taking (y : ActionRead) : Type 0 where
@@ -92,13 +92,13 @@ module _ (ws : List ℕ) (p : Program) {us : List ℕ} {i : ℕ} (q : read ws �
         taking : {y : ActionRead} → y ≡ actionRead (action (length (p .ranges)) true (drop place ws) place) → Taking y
         taking {y} e =
             let ok = accepted ws p us i q in
-            let n = length-places (firstAction p) (p .actions) in
+            let n = length-places encodeAction (firstAction p) (p .actions) in
             let most = ok .good .actions .few in
-            let same : place ≡ getD (places (firstAction p) (p .actions)) k 0 = stored-at 16 (places (firstAction p) (p .actions)) k (omega arith) (omega arith) in
+            let same : place ≡ getD (places encodeAction (firstAction p) (p .actions)) k 0 = stored-at 16 (places encodeAction (firstAction p) (p .actions)) k (omega arith) (omega arith) in
             let t = action-k ws p k ok known in
             let a = actionOf p k in
             let good = each-at (p .actions) (length (p .ranges)) k (ok .good .actions .each) known in
-            let end = getD (places (firstAction p) (p .actions)) k 0 + length (encodeAction a) in
+            let end = getD (places encodeAction (firstAction p) (p .actions)) k 0 + length (encodeAction a) in
             let f : y ≡ actionRead (got a (t .rest) end) = rw (same, t .read) at e in
             rw f (record {
               guards-few = omega (arith, good .guards .few);

@@ -140,16 +140,18 @@ unit-zeros zero x = refl
 unit-zeros (suc n) [] = refl
 unit-zeros (suc n) (y ∷ x) = rw (unit-zeros n x) (equal (num 0 ⊗ var y ⊕ num 0) (num 0) (omega arith))
 
-unit-value : (n v : ℕ) (x : List ℤ) → v < n → dot (set (replicate n (pos 0)) v (pos 1)) x ≡ getD x v (pos 0)
+pub unit-value : (n v : ℕ) (k : ℤ) (x : List ℤ) → v < n → dot (set (replicate n (pos 0)) v k) x ≡ k *ℤ getD x v (pos 0)
 unfolding dot
-unit-value zero v x h = absurd (not-suc-le-zero h)
-unit-value (suc n) zero [] h = refl
-unit-value (suc n) zero (y ∷ x) h = rw (unit-zeros n x) (equal (num 1 ⊗ var y ⊕ num 0) (var y) (omega arith))
-unit-value (suc n) (suc v) [] h = refl
-unit-value (suc n) (suc v) (y ∷ x) h = rw (unit-value n v x (le-of-suc-le-suc h)) (equal (num 0 ⊗ var y ⊕ var (getD x v (pos 0))) (var (getD x v (pos 0))) (omega arith))
+unit-value zero v k x h = absurd (not-suc-le-zero h)
+unit-value (suc n) zero k [] h = equal (num 0) (var k ⊗ num 0) (omega arith)
+unit-value (suc n) zero k (y ∷ x) h = rw (unit-zeros n x) (equal (var k ⊗ var y ⊕ num 0) (var k ⊗ var y) (omega arith))
+unit-value (suc n) (suc v) k [] h = equal (num 0) (var k ⊗ num 0) (omega arith)
+unit-value (suc n) (suc v) k (y ∷ x) h =
+    let d = getD x v (pos 0) in
+    rw (unit-value n v k x (le-of-suc-le-suc h)) (equal (num 0 ⊗ var y ⊕ var k ⊗ var d) (var k ⊗ var d) (omega arith))
 
 keep-value : (v : ℕ) (x : List ℤ) → v < 8 → rowValue (keepRow v) x ≡ getD x v (pos 0)
-keep-value v x h = rw (unit-value 8 v x h) (equal (var (getD x v (pos 0)) ⊕ num 0) (var (getD x v (pos 0))) (omega arith))
+keep-value v x h = rw (unit-value 8 v (pos 1) x h) (equal (num 1 ⊗ var (getD x v (pos 0)) ⊕ num 0) (var (getD x v (pos 0))) (omega arith))
 
 at-keep : (v : ℕ) (x : List ℤ) → v < 8 → getD (map (λ r. rowValue r x) keepRows) v (pos 0) ≡ rowValue (keepRow v) x
 at-keep zero x h = refl

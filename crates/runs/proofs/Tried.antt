@@ -26,7 +26,7 @@ use Rattle.runs.specs.Values.{padded, tried}
 use Rattle.runs.proofs.Trying.{all-padded, put-padded, put-length}
 use Rattle.runs.proofs.Sizes.{front-stored, new-values}
 
-rising-below : (vars v : ℕ) (ss : List Assignment) → Rising vars v ss → Each (λ x. x .variable < vars) ss
+pub rising-below : (vars v : ℕ) (ss : List Assignment) → Rising vars v ss → Each (λ x. x .variable < vars) ss
 rising-below vars v [] p = tt
 rising-below vars v (x ∷ ss) p = (p .0 .below, rising-below vars (suc (x .variable)) ss (p .1))
 

@@ -121,6 +121,27 @@ pub fn assignments(w: u32) -> usize
     (w % 16) as usize
 }
 
+// The source in a LEMMA word.
+pub fn source(w: u32) -> usize
+    ensures { λ r. ⌜ r ≡ bits 27 20 w ⌝ }
+{
+    (w / 1048576 % 256) as usize
+}
+
+// The goal in a LEMMA word.
+pub fn goal(w: u32) -> usize
+    ensures { λ r. ⌜ r ≡ bits 19 16 w ⌝ }
+{
+    (w / 65536 % 16) as usize
+}
+
+// The index in a LEMMA word.
+pub fn index(w: u32) -> usize
+    ensures { λ r. ⌜ r ≡ bits 7 0 w ⌝ }
+{
+    (w % 256) as usize
+}
+
 // A set of literals as the payload of SETS: bit p for predicate p known true, bit 14 + p for predicate p known false.
 pub struct Literals(pub u32);
 

@@ -1,0 +1,206 @@
+-- An accepted lemma is true of all whole numbers in the ranges. Assumes nothing.
+use mathlib.Core.Path.{_≡_, refl, sym, ap, _∙_, subst}
+use mathlib.Core.Bool.{Bool, true, false, cond}
+use mathlib.Core.List.{List, [], _∷_, _++_, map}
+use Prim.Native.Nat.{ℕ, zero, suc, _+_, _-_, _≤_, _<_}
+use native.Mathlib.Omega.{arith}
+use lib.Dec.{eqb}
+use lib.IntN.{ℤ, pos, negsuc, negℤ}
+use lib.ListN.{length, getD, set, length-map}
+use lib.Signed.{leZ, ltZ, _≤ℤ_, clashℤ}
+use Rattle.integers.proofs.Int.{var, num, _⊕_, _⊗_, ⊖, below, law, le-in}
+use Rattle.integers.proofs.Tests.{ltZ-true, leZ-true, leZ-false, le-leZ, and-true}
+use Rattle.rows.specs.declared.Row.{Row}
+use Rattle.rows.specs.declared.Range.{Range}
+use Rattle.rows.specs.Rows.{rowValue, Holds, negated, largestValue, InRanges, in-none, in-one}
+use Rattle.rows.proofs.Laws.{negation}
+use Rattle.grammar.specs.Programs.{Assignment, Program}
+use Rattle.grammar.specs.WellFormed.{Each, RowOk, Rising, ActionOk, WellFormed}
+use Rattle.actions.specs.Results.{keepRows}
+use Rattle.actions.specs.Results.{assigned as replaced}
+use Rattle.programs.proofs.Places.{noneAction}
+use Rattle.runs.specs.Runs.{allHold, holds, within, lowestOff, Inside, put, assigned, actionOf, has, rowIf, literalRows}
+use Rattle.runs.specs.Values.{padded}
+use Rattle.runs.proofs.Trying.{first-on, value-padded, put-padded}
+use Rattle.runs.proofs.Sizes.{every-each, unit-value, new-values}
+use Rattle.runs.proofs.Tried.{rising-below, length-padded}
+use Rattle.sums.specs.Sums.{combine, constRow, afterwards}
+use Rattle.sums.proofs.Laws.{Eights, Hold, after-value, after-long, sum-holds, never-holds}
+use Rattle.lemmas.specs.Lemmas.{Lemma, START, sourceRows, newRows, predicate, range, aboveLow, belowHigh, negatedGoal, accepted}
+use Rattle.lemmas.specs.LemmaGrammar.{goalAllowed, setsVariable, LemmaOk}
+use Rattle.lemmas.specs.Truth.{happens, Claim, True}
+use Rattle.lemmas.proofs.LemmaLaws.{false-true, sets-known}
+
+-- ---- a state on its ranges
+in-ranges : (gs : List Range) (s : List ℤ) → length s ≡ length gs → length gs ≤ lowestOff gs s → InRanges gs s
+unfolding lowestOff
+in-ranges [] [] l h = in-none
+in-ranges [] (x ∷ s) l h = absurd (omega arith)
+in-ranges (g ∷ gs) [] l h = absurd (omega arith)
+in-ranges (g ∷ gs) (x ∷ s) l h =
+    let (on, rest) = first-on (within g x) h in
+    let (low, high) = and-true (leZ (g .low) x) (leZ x (g .high)) on in
+    in-one (leZ-true (g .low) x low) (leZ-true x (g .high) high) (in-ranges gs s (omega arith) rest)
+
+-- ---- every row has eight coefficients
+eights-rows : (vars : ℕ) (rs : List Row) → Each (RowOk vars) rs → Eights rs
+eights-rows vars [] h = tt
+eights-rows vars (r ∷ rs) h = (h .0 .eight, eights-rows vars rs (h .1))
+
+eights-append : (xs ys : List Row) → Eights xs → Eights ys → Eights (xs ++ ys)
+eights-append [] ys h k = k
+eights-append (x ∷ xs) ys h k = (h .0, eights-append xs ys (h .1) k)
+
+eights-if : (b : Bool) (xs ys : List Row) → Eights xs → Eights ys → Eights (cond b xs ys)
+eights-if true xs ys h k = h
+eights-if false xs ys h k = k
+
+negated-long : (r : Row) → length (r .coef) ≡ 8 → length (negated r .coef) ≡ 8
+negated-long r h = length-map (r .coef) negℤ ∙ h
+
+eights-literals : (i : ℕ) (rs : List Row) (n : ℕ) → Eights rs → Eights (literalRows i rs n)
+unfolding literalRows
+eights-literals i [] n h = tt
+eights-literals i (r ∷ rs) n h =
+    let xs = rowIf (has i n) r in
+    let ys = rowIf (has (14 + i) n) (negated r) in
+    let zs = literalRows (suc i) rs n in
+    eights-append xs (ys ++ zs)
+    (eights-if (has i n) (r ∷ []) [] (h .0, tt) tt)
+    (eights-append ys zs (eights-if (has (14 + i) n) (negated r ∷ []) [] (negated-long r (h .0), tt) tt) (eights-literals (suc i) rs n (h .1)))
+
+eights-set : (rs : List Row) (i : ℕ) (r : Row) → Eights rs → length (r .coef) ≡ 8 → Eights (set rs i r)
+eights-set [] i r h k = tt
+eights-set (x ∷ rs) zero r h k = (k, h .1)
+eights-set (x ∷ rs) (suc i) r h k = (h .0, eights-set rs i r (h .1) k)
+
+eights-replaced : (vars v : ℕ) (rs : List Row) (ss : List Assignment) → Eights rs → Rising vars v ss → Eights (replaced rs ss)
+unfolding replaced
+eights-replaced vars v rs [] h k = h
+eights-replaced vars v rs (x ∷ ss) h k =
+    eights-replaced vars (suc (x .variable)) (set rs (x .variable) (x .row)) ss (eights-set rs (x .variable) (x .row) h (k .0 .row .eight)) (k .1)
+
+eights-keep : Eights keepRows
+eights-keep = (refl, (refl, (refl, (refl, (refl, (refl, (refl, (refl, tt))))))))
+
+-- ---- rows that hold
+hold-all : (rs : List Row) (s : List ℤ) → allHold rs s ≡ true → Hold rs s
+unfolding allHold
+hold-all [] s h = tt
+hold-all (r ∷ rs) s h = let (a, b) = and-true (holds r s) (allHold rs s) h in (leZ-true (pos 0) (rowValue r s) a, hold-all rs s b)
+
+hold-append : (xs ys : List Row) (s : List ℤ) → Hold xs s → Hold ys s → Hold (xs ++ ys) s
+hold-append [] ys s h k = k
+hold-append (x ∷ xs) ys s h k = (h .0, hold-append xs ys s (h .1) k)
+
+-- a row that cannot hold fails
+fails : (r : Row) (s : List ℤ) → (Holds r s → ⊥) → holds r s ≡ false
+fails r s f = go (holds r s) refl
+  where
+    go : (b : Bool) → holds r s ≡ b → holds r s ≡ false
+    go true e = absurd (f (leZ-true (pos 0) (rowValue r s) e))
+    go false e = e
+
+-- a row whose negation cannot hold holds
+must-hold : (r : Row) (s : List ℤ) → (Holds (negated r) s → ⊥) → Holds r s
+must-hold r s f = go (holds r s) refl
+  where
+    go : (b : Bool) → holds r s ≡ b → Holds r s
+    go true e = leZ-true (pos 0) (rowValue r s) e
+    go false e = absurd (f (negation r s .1 (clashℤ (leZ-false (pos 0) (rowValue r s) e))))
+
+-- ---- the rows of goals 3 and 4
+low-holds : (p : Program) (v : ℕ) (t : List ℤ) → v < 8 → Holds (aboveLow p v) t → range p v .low ≤ℤ getD t v (pos 0)
+low-holds p v t l h =
+    let x = getD t v (pos 0) in
+    let g = range p v .low in
+    let k = rw (unit-value 8 v (pos 1) t l) at h in
+    below (var g) (var x) (omega (arith, le-in k, law (num 0), law (num 1 ⊗ var x ⊕ ⊖ (var g))))
+
+high-holds : (p : Program) (v : ℕ) (t : List ℤ) → v < 8 → Holds (belowHigh p v) t → getD t v (pos 0) ≤ℤ range p v .high
+high-holds p v t l h =
+    let x = getD t v (pos 0) in
+    let g = range p v .high in
+    let k = rw (unit-value 8 v (negsuc 0) t l) at h in
+    below (var x) (var g) (omega (arith, le-in k, law (num 0), law (⊖ (num 1) ⊗ var x ⊕ var g)))
+
+module _ (p : Program) (ok : WellFormed p) where
+  abbrev vars : ℕ
+  vars = length (p .ranges)
+
+  action-ok : (k : ℕ) → ActionOk vars (actionOf p k)
+  action-ok = every-each (ActionOk vars) noneAction (p .actions)
+      (record { guards = record { few = omega arith; each = tt }; few = omega arith; rising = tt }) (ok .actions .each)
+
+  eights-new : (source : ℕ) → Eights (newRows p source)
+  eights-new source = eights-replaced vars 0 keepRows (actionOf p source .sets) eights-keep (action-ok source .rising)
+
+  eights-source : (source : ℕ) → Eights (sourceRows p source)
+  eights-source source =
+      eights-if (eqb source START) (p .start) (actionOf p source .guards)
+      (eights-rows vars (p .start) (ok .start .each))
+      (eights-rows vars (actionOf p source .guards) (action-ok source .guards .each))
+
+  set-below : (source v : ℕ) → setsVariable (actionOf p source .sets) v ≡ true → v < 8
+  set-below source v e = omega (arith, sets-known vars 0 (actionOf p source .sets) v (action-ok source .rising) e, ok .ranges .few)
+
+  module _ (s : List ℤ) (inside : Inside p s) (source : ℕ) where
+    abbrev after : List ℤ
+    after = assigned (actionOf p source) s
+
+    -- at a state the row afterwards is worth what the row is worth at the state afterwards
+    value-after : (g : Row) → rowValue (afterwards (newRows p source) g) s ≡ rowValue g after
+    value-after g =
+        let ss = actionOf p source .sets in
+        let n = 8 - length s in
+        let fits : length s ≤ 8 = omega (arith, inside .long, ok .ranges .few) in
+        let known = subst (λ (m : ℕ). Each (λ x. x .variable < m) ss) (sym (inside .long)) (rising-below vars 0 ss (action-ok source .rising)) in
+        sym (value-padded (afterwards (newRows p source) g) s n)
+        ∙ after-value (newRows p source) g (padded s) (eights-new source)
+        ∙ ap (rowValue g) (new-values (padded s) ss (length-padded s fits) ∙ put-padded ss s s n known)
+        ∙ value-padded g (put ss s s) n
+
+    module _ (set : ℕ) (ms : List ℕ) (premises : allHold (literalRows 0 (p .predicates) set) s ≡ true) (enabled : happens p source s ≡ true) where
+      abbrev rest : List Row
+      rest = literalRows 0 (p .predicates) set ++ sourceRows p source
+
+      -- the largest value of the sum of these rows and the rest is below 0
+      abbrev Refuted : List Row → Type 0
+      Refuted qs = ltZ (largestValue (combine (constRow (pos 0)) (map pos ms) (qs ++ rest)) (p .ranges)) (pos 0) ≡ true
+
+      -- then these rows do not all hold
+      cannot : (qs : List Row) → Eights qs → Refuted qs → Hold qs s → ⊥
+      cannot qs long e h =
+          let xs = literalRows 0 (p .predicates) set in
+          let ys = sourceRows p source in
+          let longs = eights-append xs ys (eights-literals 0 (p .predicates) set (eights-rows vars (p .predicates) (ok .predicates .each))) (eights-source source) in
+          let all = hold-append xs ys s (hold-all xs s premises) (hold-all ys s enabled) in
+          let sum = combine (constRow (pos 0)) (map pos ms) (qs ++ rest) in
+          never-holds sum (in-ranges (p .ranges) s (inside .long) (omega (arith, inside .none-off))) (ltZ-true (largestValue sum (p .ranges)) (pos 0) e)
+          (sum-holds (λ k. k) ms (qs ++ rest) s (eights-append qs rest long longs) (hold-append qs rest s h all))
+
+      -- goals 1, 3 and 4
+      holds-after : (g : Row) → Refuted (negated (afterwards (newRows p source) g) ∷ []) → Holds g after
+      holds-after g e =
+          let a = afterwards (newRows p source) g in
+          let long = negated-long a (after-long (newRows p source) g (eights-new source)) in
+          rw (value-after g) at (must-hold a s (λ h. cannot (negated a ∷ []) (long, tt) e (h, tt)))
+
+      -- goal 2
+      fails-after : (g : Row) → Refuted (afterwards (newRows p source) g ∷ []) → holds g after ≡ false
+      fails-after g e =
+          let a = afterwards (newRows p source) g in
+          let long = after-long (newRows p source) g (eights-new source) in
+          rw (value-after g) at (fails a s (λ h. cannot (a ∷ []) (long, tt) e (h, tt)))
+
+      claimed : (g i : ℕ) → goalAllowed p source g i ≡ true → Refuted (negatedGoal p source g i) → Claim p g i after
+      claimed zero i a e = cannot [] tt e tt
+      claimed (suc zero) i a e = le-leZ (pos 0) (rowValue (predicate p i) after) (holds-after (predicate p i) e)
+      claimed (suc (suc zero)) i a e = fails-after (predicate p i) e
+      claimed (suc (suc (suc zero))) i a e = low-holds p i after (set-below source i a) (holds-after (aboveLow p i) e)
+      claimed (suc (suc (suc (suc zero)))) i a e = high-holds p i after (set-below source i a) (holds-after (belowHigh p i) e)
+      claimed (suc (suc (suc (suc (suc g))))) i a e = false-true a
+
+pub accepted-true : (p : Program) → WellFormed p → (l : Lemma) → LemmaOk p l → accepted p l ≡ true → True p l
+accepted-true p ok l good e s inside premises enabled =
+    claimed p ok s inside (l .source) (l .premises .0) (l .multipliers) premises enabled (l .goal) (l .index) (good .goal) e

@@ -1,0 +1,76 @@
+-- What a source offers, from the image of a program.
+use mathlib.Core.Path.{_≡_, refl, sym, ap, _∙_}
+use mathlib.Core.Bool.{Bool, true, false, cond}
+use mathlib.Core.List.{List}
+use Prim.Native.Nat.{ℕ, _≤_, _<_}
+use native.Mathlib.Omega.{arith}
+use lib.Dec.{eqb}
+use lib.Seq.{sets}
+use lib.ListN.{length, getD, drop, List·getD-eq-default}
+use borrow.Author.Tests.{eq-eqb, ne-eqb}
+use Rattle.rows.specs.declared.Row.{Row}
+use Rattle.grammar.specs.Programs.{Action, Program}
+use Rattle.grammar.specs.Grammar.{action}
+use Rattle.grammar.specs.Encoding.{encodeAction}
+use Rattle.reader.specs.Results.{zeroRows}
+use Rattle.actions.specs.declared.ActionRead.{ActionRead}
+use Rattle.actions.specs.Results.{actionRead, keepRows, noMarks, assigned, marked}
+use Rattle.programs.specs.declared.Image.{Image}
+use Rattle.programs.specs.Images.{places, firstAction}
+use Rattle.programs.proofs.Places.{noneAction, action-k, stored-at, length-places}
+use Rattle.runs.specs.Runs.{actionOf}
+use Rattle.lemmas.specs.Lemmas.{START}
+use Rattle.lemmas.specs.declared.Source.{Source}
+use Rattle.lemmas.specs.Sources.{theProgram, Held, sourceOf}
+
+none-at : (p : Program) (k : ℕ) → length (p .actions) ≤ k → actionOf p k ≡ noneAction
+none-at p k l = List·getD-eq-default (p .actions) noneAction l
+
+abbrev made : ℕ → List Row → List Row → List Bool → Source
+made n rs new set = record { count = n; rows = rs; new = new; set = set }
+
+offered : (p : Program) (k : ℕ) (b : Bool) (a : Action) → eqb k START ≡ b → actionOf p k ≡ a
+    → sourceOf p k ≡ made (length (cond b (p .start) (a .guards))) (sets zeroRows 0 (cond b (p .start) (a .guards))) (assigned keepRows (a .sets)) (marked noMarks (a .sets))
+offered p k b a e f = rw (e, f) refl
+
+module _ (ws : List ℕ) {g : Image} (h : Held ws g) (k : ℕ) where
+  abbrev p : Program
+  p = theProgram ws
+
+  pub counts : (g .actions ≡ length (p .actions)) × (g .preds ≡ length (p .predicates)) × (g .vars ≡ length (p .ranges)) × (length (p .ranges) ≤ 8) × (length (p .predicates) ≤ 14) × (length (p .actions) ≤ 16)
+  counts =
+      let ok = h .accepted .good in
+      (ap (λ (y : Image). y .actions) (h .same), ap (λ (y : Image). y .preds) (h .same), ap (λ (y : Image). y .vars) (h .same), ok .ranges .few, ok .predicates .few, ok .actions .few)
+
+  pub start-source : k ≡ START → made (g .starts) (g .start) keepRows noMarks ≡ sourceOf p k
+  unfolding assigned marked
+  start-source e =
+      let m = counts .5 in
+      ap (λ (y : Image). made (y .starts) (y .start) keepRows noMarks) (h .same) ∙ sym (offered p k true noneAction (eq-eqb k START e) (none-at p k (omega arith)))
+
+  module _ (n : k ≡ START → ⊥) where
+    pub no-source : g .actions ≤ k → made 0 zeroRows keepRows noMarks ≡ sourceOf p k
+    unfolding assigned marked
+    no-source l = sym (offered p k false noneAction (ne-eqb k START n) (none-at p k (omega (arith, counts .0))))
+
+    module _ (l : k < g .actions) where
+      abbrev place : ℕ
+      place = getD (g .«action_at») k 0
+
+      known : k < length (p .actions)
+      known = omega (arith, counts .0)
+
+      place-is : place ≡ getD (places encodeAction (firstAction p) (p .actions)) k 0
+      place-is =
+          let m = counts .5 in
+          let n = length-places encodeAction (firstAction p) (p .actions) in
+          ap (λ (y : Image). getD (y .«action_at») k 0) (h .same) ∙ stored-at 16 (places encodeAction (firstAction p) (p .actions)) k (omega (arith, known)) (omega arith)
+
+      pub place-within : (g .vars ≤ 8) × (place ≤ length ws) × (k < 16)
+      place-within = (omega (arith, counts .2, counts .3), omega (arith, place-is, action-k ws p k (h .accepted) known .here), omega (arith, known, counts .5))
+
+      pub action-source : {y : ActionRead} → y ≡ actionRead (action (g .vars) true (drop place ws) place) → made (y .guards) (y .guard) (y .rows) (y .set) ≡ sourceOf p k
+      action-source {y} e =
+          let t = action-k ws p k (h .accepted) known in
+          let f = rw (counts .2, place-is, t .read) at e in
+          ap (λ (z : ActionRead). made (z .guards) (z .guard) (z .rows) (z .set)) f ∙ sym (offered p k false (actionOf p k) (ne-eqb k START n) refl)

@@ -1,0 +1,92 @@
+-- What the readers of lemmas give, and what they work on. Only contracts of functions within the project cite these.
+--
+-- theProgram             — the program that a list of words is; an empty one where it is none
+-- Held                   — a list is a program, and this is its image
+-- sourceOf               — what a source offers
+-- goalBy, headBy, premisesBy — what a lemma's first two words may say, by the program's counts and what the source sets
+-- literalCount, rowCount — how many literals a set has; how many rows a lemma has
+-- lemmaRead              — a lemma and where reading goes on
+-- lemmasFrom             — where lemmas begin, put behind those that are stored
+-- listed                 — where each lemma of a list begins, or the refusal
+use mathlib.Core.Path.{_≡_}
+use mathlib.Core.Bool.{Bool, true, false, cond, _&&_, _||_, not}
+use mathlib.Core.List.{List, [], _∷_}
+use Prim.Native.Nat.{ℕ, zero, suc, _+_}
+use lib.Dec.{eqb, ltb}
+use lib.ListN.{length, getD, replicate}
+use lib.Seq.{sets}
+use Rattle.words.specs.Words.{bits, noLiterals}
+use Rattle.words.specs.declared.Refusal.{Refusal}
+use Rattle.grammar.specs.Reading.{Read, got, refused}
+use Rattle.grammar.specs.Programs.{Program}
+use Rattle.grammar.specs.Grammar.{literalsAllowed}
+use Rattle.grammar.proofs.ProgramLaws.{Accepted}
+use Rattle.reader.specs.declared.Next.the-variants.{At}
+use Rattle.reader.specs.declared.Next.the-variants.{Refused as Stopped}
+use Rattle.reader.specs.Results.{zeroRows}
+use Rattle.actions.specs.Results.{marked, noMarks}
+use Rattle.programs.specs.Calls.{read}
+use Rattle.programs.specs.Images.{imageOf, places}
+use Rattle.programs.specs.declared.Image.{Image}
+use Rattle.programs.specs.declared.Status.the-variants.{Ready, Failed}
+use Rattle.runs.specs.Runs.{has, actionOf}
+use Rattle.lemmas.specs.Lemmas.{Lemma, START, sourceRows, newRows}
+use Rattle.lemmas.specs.LemmaGrammar.{encodeLemma}
+use Rattle.lemmas.specs.declared.Source.{Source}
+use Rattle.lemmas.specs.declared.LemmaRead.{LemmaRead}
+use Rattle.lemmas.specs.declared.Begins.{Begins}
+use Rattle.lemmas.specs.declared.Listed.{Listed}
+
+abbrev pub programOf : Read Program → Program
+programOf (got p ws i) = p
+programOf (refused r) = record { ranges = []; start = []; predicates = []; actions = []; forbidden = [] }
+
+abbrev pub theProgram : List ℕ → Program
+theProgram ws = programOf (read ws)
+
+pub record Held (ws : List ℕ) (image : Image) : Type 0 where
+  pub accepted : Accepted ws (theProgram ws)
+  pub same : image ≡ imageOf (theProgram ws)
+
+abbrev pub sourceOf : Program → ℕ → Source
+sourceOf p s = record { count = length (sourceRows p s); rows = sets zeroRows 0 (sourceRows p s); new = newRows p s; set = marked noMarks (actionOf p s .sets) }
+
+abbrev pub goalBy : ℕ → List Bool → ℕ → ℕ → Bool
+goalBy preds set zero i = eqb i 0
+goalBy preds set (suc zero) i = ltb i preds
+goalBy preds set (suc (suc zero)) i = ltb i preds
+goalBy preds set (suc (suc (suc zero))) i = getD set i false
+goalBy preds set (suc (suc (suc (suc zero)))) i = getD set i false
+goalBy preds set (suc (suc (suc (suc (suc g))))) i = false
+
+abbrev pub headBy : ℕ → ℕ → List Bool → ℕ → Bool
+headBy actions preds set w = eqb (bits 15 8 w) 0 && (eqb (bits 27 20 w) START || ltb (bits 27 20 w) actions) && goalBy preds set (bits 19 16 w) (bits 7 0 w)
+
+abbrev pub premisesBy : ℕ → ℕ → ℕ → Bool
+premisesBy preds source set = literalsAllowed preds set && (not (eqb source START) || eqb set 0)
+
+abbrev pub oneIf : Bool → ℕ
+oneIf b = cond b 1 0
+
+-- the literals of n predicates from i on
+unfoldable pub literalCount : ℕ → ℕ → ℕ → ℕ
+literalCount i zero set = 0
+literalCount i (suc n) set = oneIf (has i set) + (oneIf (has (14 + i) set) + literalCount (suc i) n set)
+
+abbrev pub rowCount : ℕ → ℕ → ℕ → ℕ → ℕ
+rowCount goal preds set count = oneIf (not (eqb goal 0)) + (literalCount 0 preds set + count)
+
+abbrev pub lemmaRead : Read Lemma → LemmaRead
+lemmaRead (got l ws j) = record { source = l .source; goal = l .goal; index = l .index; premises = l .premises; next = At j }
+lemmaRead (refused x) = record { source = 0; goal = 0; index = 0; premises = noLiterals; next = Stopped x }
+
+abbrev pub noBegins : Refusal → Begins
+noBegins x = record { «begin_at» = replicate 512 0; count = 0; next = Stopped x }
+
+abbrev pub beginsFrom : List ℕ → ℕ → ℕ → Read (List Lemma) → Begins
+beginsFrom ns k i (got ls ws j) = record { «begin_at» = sets ns k (places encodeLemma i ls); count = k + length ls; next = At j }
+beginsFrom ns k i (refused x) = noBegins x
+
+abbrev pub listed : Read (List Lemma) → Listed
+listed (got ls ws j) = record { status = Ready; «begin_at» = sets (replicate 512 0) 0 (places encodeLemma 0 ls); count = length ls }
+listed (refused x) = record { status = Failed x; «begin_at» = replicate 512 0; count = 0 }
