@@ -1,15 +1,14 @@
 -- Counting: two places of a table are one, no injection into fewer places, and what `seek` finds.
-use Prim.Native.Nat.{ℕ, zero, suc, zero-le, suc-le-suc, _+_, _*_, _-_, _<_, _≤_}
+use Prim.Native.Nat.{ℕ, zero, suc, zero-le, suc-le-suc, _+_, _*_, _<_, _≤_}
 use native.Mathlib.Omega.{arith}
-use native.Mathlib.Nat.{sub-zero, suc-sub-suc, suc-mul, mul-le-mul-right, not-suc-le-zero}
+use native.Mathlib.Nat.{suc-mul, mul-le-mul-right, not-suc-le-zero}
 use native.Mathlib.Decide.{ℕ-discrete, decLt}
 use mathlib.Core.Path.{_≡_, refl, sym, ap, _∙_}
 use mathlib.Core.Bool.{Bool, true, false}
 use mathlib.Core.Logic.{_⊎_, inl, inr, ⊎-elim}
-use mathlib.Core.List.{List, [], _∷_, _++_}
+use mathlib.Core.List.{List, [], _∷_}
 use borrow.Author.Tests.{eqb-true, eqb-false}
-use lib.ListN.{length, getD, drop, replicate, length-replicate}
-use lib.Seq.{drop-append-le}
+use lib.ListN.{length, getD}
 use lib.Dec.{eqb}
 use Rattle.search.specs.Search.{pickN, seek}
 use Rattle.search.specs.Reach.{Distinct, AllOf}
@@ -89,12 +88,3 @@ pub no-more : (xs ws : List ℕ) → Distinct xs → AllOf (λ w. seek w ws < le
 no-more xs ws d all =
     pigeons (length xs) (length ws) (λ i. seek (getD xs i 0) ws) (λ i h. all i h)
     (λ i j hi hj e. d i j hi hj (sym (seek-found (getD xs i 0) ws (all i hi)) ∙ ap (λ (k : ℕ). getD ws k 0) e ∙ seek-found (getD xs j 0) ws (all j hj)))
-
--- ---- what is left of a run of zeros
-drop-zeros : (m N : ℕ) → m ≤ N → drop {A = ℕ} m (replicate N 0) ≡ replicate (N - m) 0
-drop-zeros zero N h = rw (sub-zero N)
-drop-zeros (suc m) zero h = absurd (not-suc-le-zero h)
-drop-zeros (suc m) (suc N) h = drop-zeros m N (omega arith) ∙ rw (suc-sub-suc N m)
-
-pub zeros-left : (m N : ℕ) (rest z : List ℕ) → m ≤ N → z ≡ replicate N 0 ++ rest → drop m z ≡ replicate (N - m) 0 ++ rest
-zeros-left m N rest z h e = rw e (drop-append-le m (replicate N 0) rest (omega (arith, length-replicate {A = ℕ} N 0)) ∙ rw (drop-zeros m N h))
