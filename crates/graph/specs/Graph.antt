@@ -1,0 +1,27 @@
+-- The abstract state graph of accepted lemmas, which stand in two tables (entries of gather/specs/Gathering).
+--
+-- answerOf — a successor as the search has it: a node's word is a SETS word
+-- nextOf   — the successor of a node's word by an action
+-- startOf  — the successor of the start
+-- graphOf  — the graph, or that there are too many nodes
+use Prim.Native.Nat.{ℕ}
+use mathlib.Core.List.{List}
+use Rattle.words.specs.Words.{payload, word, SETS}
+use Rattle.gather.specs.Gathering.{Entry, gathered, successorOf}
+use Rattle.gather.specs.declared.Successor.{Successor}
+use Rattle.gather.specs.declared.Successor.the-variants.{Nothing, Set}
+use Rattle.search.specs.Search.{Answer, To, None, Result, explored}
+use Rattle.records.specs.Records.{mostNodes}
+
+abbrev pub answerOf : Successor → Answer
+answerOf (Set s) = To (word SETS s)
+answerOf Nothing = None
+
+abbrev pub nextOf : List Entry → ℕ → ℕ → Answer
+nextOf es w j = answerOf (successorOf (gathered j (payload w) es))
+
+abbrev pub startOf : List Entry → Answer
+startOf es = answerOf (successorOf (gathered 255 0 es))
+
+abbrev pub graphOf : List Entry → ℕ → Result
+graphOf es a = explored (nextOf es) a mostNodes (startOf es)

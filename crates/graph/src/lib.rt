@@ -1,0 +1,128 @@
+// The abstract state graph of the accepted lemmas, written into a lent list.
+ghost use mathlib.Core.Path.{_≡_};
+ghost use Prim.Native.Nat.{_+_, _*_, _^_, _<_, _≤_};
+ghost use lib.ListN.{length};
+ghost use Rattle.words.specs.Words.{word, SETS};
+ghost use Rattle.gather.specs.Gathering.{entries, successorOf};
+ghost use Rattle.search.specs.Search.{To, From, answered, turns, explored};
+ghost use Rattle.records.specs.Records.{mostNodes, graphWords, graphList, exploredOf};
+ghost use Rattle.records.specs.Steps.{Turned, Filled};
+ghost use Rattle.graph.specs.Graph.{answerOf, nextOf, graphOf};
+use gather::Successor;
+use records::Explored;
+
+// The word of a node with these literals.
+fn node_word(set: u32) -> u32
+    requires { ⌜ set < 2 ^ 28 ⌝ }
+    ensures { λ r. ⌜ r ≡ word SETS set ⌝ }
+{
+    0x8000_0000 + set
+}
+
+// The turn of action j at node k, given what is shown there for it.
+fn act(
+    graph: &mut [u32],
+    nodes: usize,
+    edges: usize,
+    actions: usize,
+    k: usize,
+    j: usize,
+    shown: u64,
+) -> Explored
+    requires { ⌜ (graphWords ≤ length (now graph)) × (nodes ≤ mostNodes) × (actions ≤ 16) × (k < nodes) × (j < actions) × (edges ≤ k * actions + j) ⌝ }
+    ensures { λ r. ⌜ Turned (λ h. answered mostNodes h (From k j) (answerOf (successorOf shown))) (now (graph .entry)) actions nodes edges (k * actions + j) r (now (graph .exit)) (k * actions + j + 1) ⌝ }
+{
+    let next = gather::successor_of(shown);
+    match next {
+        Successor::Set(set) => {
+            let w = node_word(set);
+            records::enter(&mut *graph, nodes, edges, actions, k, j, w)
+        }
+        Successor::Nothing => records::enter_none(&mut *graph, nodes, edges, actions, k, j),
+    }
+}
+
+// The turns of node k's actions in order: one pass over the entries serves them all.
+fn turn(
+    premises: &[u32],
+    keys: &[u32],
+    n: usize,
+    graph: &mut [u32],
+    nodes: usize,
+    edges: usize,
+    actions: usize,
+    k: usize,
+) -> Explored
+    requires { ⌜ (n ≤ length (now premises)) × (n ≤ length (now keys)) × (graphWords ≤ length (now graph)) × (nodes ≤ mostNodes) × (actions ≤ 16) × (k < nodes) × (edges ≤ k * actions) ⌝ }
+    ensures { λ r. ⌜ Turned (λ h. turns (nextOf (entries (now (premises .entry)) (now (keys .entry)) n)) mostNodes h k actions) (now (graph .entry)) actions nodes edges (k * actions) r (now (graph .exit)) (k * actions + actions) ⌝ }
+{
+    let node = records::word_at(&graph[..], actions, k);
+    let shown = gather::gather_all(premises, keys, n, node % 268435456);
+    let mut m = nodes;
+    let mut x = edges;
+    let mut j: usize = 0;
+    while j < actions {
+        let r = act(&mut *graph, m, x, actions, k, j, shown[j]);
+        let Explored::Whole(c, d) = r else {
+            return Explored::Full;
+        };
+        m = c;
+        x = d;
+        j += 1;
+    }
+    Explored::Whole(m, x)
+}
+
+// The turns of all nodes, from node 0's word on. Where there are too many nodes the list is left as it then is.
+fn explore_from(
+    premises: &[u32],
+    keys: &[u32],
+    n: usize,
+    graph: &mut [u32],
+    actions: usize,
+    start: u32,
+) -> Explored
+    requires { ⌜ (n ≤ length (now premises)) × (n ≤ length (now keys)) × (graphWords ≤ length (now graph)) × (actions ≤ 16) ⌝ }
+    ensures { λ r. ⌜ Filled actions (explored (nextOf (entries (now (premises .entry)) (now (keys .entry)) n)) actions mostNodes (To start)) r (now (graph .entry)) (now (graph .exit)) ⌝ }
+{
+    records::begin(&mut *graph, start);
+    let mut nodes: usize = 1;
+    let mut edges: usize = 0;
+    let mut k: usize = 0;
+    while k < nodes {
+        let r = turn(premises, keys, n, &mut *graph, nodes, edges, actions, k);
+        let Explored::Whole(c, d) = r else {
+            return Explored::Full;
+        };
+        nodes = c;
+        edges = d;
+        k += 1;
+    }
+    Explored::Whole(nodes, edges)
+}
+
+// The graph of the first n entries, written into the list's first 9,216 words.
+pub fn explore(
+    premises: &[u32],
+    keys: &[u32],
+    n: usize,
+    actions: usize,
+    graph: &mut [u32],
+) -> Explored
+    requires { ⌜ (n ≤ length (now premises)) × (n ≤ length (now keys)) × (graphWords ≤ length (now graph)) × (actions ≤ 16) ⌝ }
+    ensures { λ r. ⌜ (r ≡ exploredOf (graphOf (entries (now (premises .entry)) (now (keys .entry)) n) actions)) × (now (graph .exit) ≡ graphList actions (graphOf (entries (now (premises .entry)) (now (keys .entry)) n) actions) (now (graph .entry))) ⌝ }
+{
+    records::clear(&mut *graph, records::ROOM);
+    let next = gather::successor_of(gather::gather(premises, keys, n, 255, 0));
+    match next {
+        Successor::Set(set) => {
+            let w = node_word(set);
+            let r = explore_from(premises, keys, n, &mut *graph, actions, w);
+            if let Explored::Full = r {
+                records::clear(&mut *graph, records::ROOM);
+            }
+            r
+        }
+        Successor::Nothing => Explored::Whole(0, 0),
+    }
+}

@@ -1,0 +1,75 @@
+-- Where records stand, and the lookup among them:
+--     row-within, most, one-more      records lie one after another, and within their room
+--     column-length, column-at, column-other   a column's words, and stores elsewhere
+--     found                           the loop that looks a word up
+--     zeros-left                      what is left of a run of zeros
+use mathlib.Core.Path.{_≡_, refl, sym, ap, _∙_}
+use mathlib.Core.Logic.{_⊎_, ⊎-elim}
+use mathlib.Core.List.{List, [], _∷_, _++_}
+use Prim.Native.Nat.{ℕ, zero, suc, _+_, _-_, _*_, _<_, _≤_}
+use native.Mathlib.Omega.{arith}
+use native.Mathlib.Nat.{sub-zero, suc-sub-suc, suc-mul, mul-le-mul, mul-le-mul-right, not-suc-le-zero}
+use lib.ListN.{length, getD, set, drop, replicate, length-replicate, length-append, List·getD-append}
+use lib.Seq.{drop-append-le, getD-set-other, getD-at}
+use Rattle.search.specs.Search.{seek}
+use Rattle.search.proofs.Count.{lt-or-le, seek-found, seek-bound, seek-le}
+use Rattle.records.specs.Records.{mostNodes, graphWords, stride, recordPlace, column}
+
+pub row-within : (i n s : ℕ) → i < n → i * s + s ≤ n * s
+row-within i n s h = omega (arith, mul-le-mul-right s h, suc-mul i s)
+
+pub most : (n a : ℕ) → n ≤ mostNodes → a ≤ 16 → recordPlace a n ≤ graphWords
+most n a few ha = mul-le-mul {n₁ = n} {m₁ = stride a} {n₂ = mostNodes} {m₂ = stride 16} few (omega arith)
+
+pub one-more : (n a : ℕ) → n < mostNodes → a ≤ 16 → recordPlace a n + stride a ≤ graphWords
+one-more n a h ha = omega (arith, row-within n mostNodes (stride a) h)
+
+-- the record of a node, and those that are there
+pub rooms : (n k a : ℕ) → n ≤ mostNodes → a ≤ 16 → k < n → (recordPlace a k + stride a ≤ recordPlace a n) × (recordPlace a n ≤ graphWords)
+rooms n k a few ha hk = (row-within k n (stride a) hk, most n a few ha)
+
+-- ---- columns
+pub column-length : (l : List ℕ) (a c n : ℕ) → length (column l a c n) ≡ n
+unfolding column
+column-length l a c zero = refl
+column-length l a c (suc n) = length-append (column l a c n) (getD l (recordPlace a n + c) 0 ∷ []) ∙ omega (arith, column-length l a c n)
+
+pub column-at : (l : List ℕ) (a c n k : ℕ) → k < n → getD (column l a c n) k 0 ≡ getD l (recordPlace a k + c) 0
+unfolding column
+column-at l a c zero k h = absurd (not-suc-le-zero h)
+column-at l a c (suc n) k h =
+    ⊎-elim (λ lt. List·getD-append (column l a c n) (getD l (recordPlace a n + c) 0 ∷ []) 0 k (omega (arith, column-length l a c n)) ∙ column-at l a c n k lt)
+    (λ le. let e : k ≡ n = omega arith in rw e (getD-at (column l a c n) (getD l (recordPlace a n + c) 0) [] 0 n (column-length l a c n))) (lt-or-le k n)
+
+-- the first word of a record
+pub first-at : (l : List ℕ) (a n k : ℕ) → k < n → getD (column l a 0 n) k 0 ≡ getD l (recordPlace a k) 0
+first-at l a n k h = let e : recordPlace a k + 0 ≡ recordPlace a k = omega arith in column-at l a 0 n k h ∙ ap (λ (x : ℕ). getD l x 0) e
+
+pub column-other : (l : List ℕ) (a c n p v : ℕ) → ((i : ℕ) → i < n → recordPlace a i + c ≡ p → ⊥) → column (set l p v) a c n ≡ column l a c n
+unfolding column
+column-other l a c zero p v apart = refl
+column-other l a c (suc n) p v apart =
+    rw (column-other l a c n p v (λ i h. apart i (omega arith)), getD-set-other l p (recordPlace a n + c) v 0 (apart n (omega arith)))
+
+-- ---- the lookup
+pub found : (l : List ℕ) (a n w i : ℕ) → i ≤ n → ((k : ℕ) → k < i → getD l (recordPlace a k) 0 ≡ w → ⊥) → (n ≤ i) ⊎ (getD l (recordPlace a i) 0 ≡ w) → i ≡ seek w (column l a 0 n)
+found l a n w i le before end =
+    let cs = column l a 0 n in
+    let len : length cs ≡ n = column-length l a 0 n in
+    let at : (k : ℕ) → k < n → getD cs k 0 ≡ getD l (recordPlace a k) 0 = first-at l a n in
+    let low : i ≤ seek w cs = ⊎-elim (λ lt. absurd (before (seek w cs) lt (sym (at (seek w cs) (omega arith)) ∙ seek-found w cs (omega (arith, len))))) (λ h. h) (lt-or-le (seek w cs) i) in
+    ⊎-elim (λ h. omega (arith, seek-bound w cs, len, low))
+    (λ e. ⊎-elim (λ lt. omega (arith, low, seek-le w cs i (omega (arith, len)) (at i lt ∙ e))) (λ h. omega (arith, seek-bound w cs, len, low)) (lt-or-le i n)) end
+
+-- what is not found below n is not there
+pub not-there : (w : ℕ) (l : List ℕ) (a n at : ℕ) → at ≡ seek w (column l a 0 n) → n ≤ at → seek w (column l a 0 n) ≡ n
+not-there w l a n at e out = omega (arith, seek-bound w (column l a 0 n), column-length l a 0 n)
+
+-- ---- what is left of a run of zeros
+drop-zeros : (m N : ℕ) → m ≤ N → drop {A = ℕ} m (replicate N 0) ≡ replicate (N - m) 0
+drop-zeros zero N h = rw (sub-zero N)
+drop-zeros (suc m) zero h = absurd (not-suc-le-zero h)
+drop-zeros (suc m) (suc N) h = drop-zeros m N (omega arith) ∙ rw (suc-sub-suc N m)
+
+pub zeros-left : (m N : ℕ) (rest z : List ℕ) → m ≤ N → z ≡ replicate N 0 ++ rest → drop m z ≡ replicate (N - m) 0 ++ rest
+zeros-left m N rest z h e = rw e (drop-append-le m (replicate N 0) rest (omega (arith, length-replicate {A = ℕ} N 0)) ∙ rw (drop-zeros m N h))

@@ -1,0 +1,81 @@
+-- The records of a graph in a list of words, one after the other: a node's word, its origin, and an edge for each action.
+--
+-- ORIGIN, EDGE           — the kinds
+-- edgeWord, originWord   — the words of an edge and of an origin
+-- mostNodes, graphWords  — how many nodes there may be, and how many words their records have room in
+-- header, stride         — how many words of a record come before its edges; how many it has
+-- recordPlace, edgePlace — where a record begins; where an edge of it stands
+-- column                 — word c of each of the first n records
+-- edgeRow, nodeRecord, recordsOf — the first j edge words of node k; the record of node k; the first n records
+-- listOf, graphList      — the list that a search leaves: the records, then zeros up to its room, then what was there
+-- exploredOf             — what a search answers: the number of nodes and of edges that lead to a node, or that there are too many nodes
+use Prim.Native.Nat.{ℕ, zero, suc, _+_, _*_, _-_, _^_}
+use mathlib.Core.List.{List, [], _∷_, _++_}
+use lib.ListN.{drop, getD, replicate}
+use Rattle.words.specs.Words.{word}
+use Rattle.search.specs.Search.{Answer, To, None, Origin, Root, From, Graph, Result, Done, Over, count, links, nodeWord, origin, edge}
+use Rattle.records.specs.declared.Explored.{Explored}
+use Rattle.records.specs.declared.Explored.the-variants.{Whole, Full}
+
+abbrev pub ORIGIN : ℕ
+ORIGIN = 11
+
+abbrev pub EDGE : ℕ
+EDGE = 12
+
+-- all 28 bits ones for none
+abbrev pub edgeWord : Answer → ℕ
+edgeWord (To m) = word EDGE m
+edgeWord None = word EDGE (2 ^ 28 - 1)
+
+-- the parent in bits 12..4, the action in 3..0; all 13 bits ones for node 0
+abbrev pub originWord : Origin → ℕ
+originWord Root = word ORIGIN (2 ^ 13 - 1)
+originWord (From p j) = word ORIGIN (p * 16 + j)
+
+abbrev pub mostNodes : ℕ
+mostNodes = 512
+
+abbrev pub graphWords : ℕ
+graphWords = 9216
+
+-- ---- where the words stand
+abbrev pub header : ℕ
+header = 2
+
+abbrev pub stride : ℕ → ℕ
+stride a = header + a
+
+abbrev pub recordPlace : ℕ → ℕ → ℕ
+recordPlace a k = k * stride a
+
+abbrev pub edgePlace : ℕ → ℕ → ℕ → ℕ
+edgePlace a k j = recordPlace a k + (header + j)
+
+unfoldable pub column : List ℕ → ℕ → ℕ → ℕ → List ℕ
+column l a c zero = []
+column l a c (suc n) = column l a c n ++ (getD l (recordPlace a n + c) 0 ∷ [])
+
+-- ---- the finished list
+unfoldable pub edgeRow : ℕ → Graph → ℕ → ℕ → List ℕ
+edgeRow a g k zero = []
+edgeRow a g k (suc j) = edgeRow a g k j ++ (edgeWord (edge a g k j) ∷ [])
+
+abbrev pub nodeRecord : ℕ → Graph → ℕ → List ℕ
+nodeRecord a g k = nodeWord g k ∷ originWord (origin g k) ∷ edgeRow a g k a
+
+unfoldable pub recordsOf : ℕ → Graph → ℕ → List ℕ
+recordsOf a g zero = []
+recordsOf a g (suc n) = recordsOf a g n ++ nodeRecord a g n
+
+-- room is for N words
+abbrev pub listOf : ℕ → ℕ → Result → List ℕ → List ℕ
+listOf N a (Done g) rest = recordsOf a g (count g) ++ (replicate (N - recordPlace a (count g)) 0 ++ rest)
+listOf N a Over rest = replicate N 0 ++ rest
+
+abbrev pub graphList : ℕ → Result → List ℕ → List ℕ
+graphList a r l₀ = listOf graphWords a r (drop graphWords l₀)
+
+abbrev pub exploredOf : Result → Explored
+exploredOf (Done g) = Whole (count g) (links g)
+exploredOf Over = Full

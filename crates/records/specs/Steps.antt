@@ -1,0 +1,41 @@
+-- What the steps of a search do to the list that it writes the records in.
+--
+-- Kept   — the list, which was l₀, begins with the n nodes of g, has its e edges, of which x lead to a node, and behind the n records is l₀
+-- Mid    — the same of a result and an answer
+-- Fair   — the nodes that an answer counts have not fallen and are at most mostNodes; the edges that it counts are at most e
+-- Turned — one step: whatever graph g the list holds before it, the list holds f g after it, and past its room is as it was
+-- Filled — what a search leaves of a list that was l₀, where it does not clear what it left when there are too many nodes
+use Prim.Native.Nat.{ℕ, _+_, _*_, _<_, _≤_}
+use mathlib.Core.Path.{_≡_}
+use mathlib.Core.List.{List, _++_, map}
+use lib.ListN.{length, drop, getD}
+use Rattle.search.specs.Search.{Graph, Result, Done, Over, count, links, edge}
+use Rattle.records.specs.Records.{originWord, edgeWord, mostNodes, graphWords, recordPlace, edgePlace, column, recordsOf}
+use Rattle.records.specs.declared.Explored.{Explored}
+use Rattle.records.specs.declared.Explored.the-variants.{Whole, Full}
+
+pub record Kept (l₀ l : List ℕ) (a n x e : ℕ) (g : Graph) : Type 0 where
+  pub size : count g ≡ n
+  pub leading : links g ≡ x
+  pub width : length (g .edges) ≡ e
+  pub words : column l a 0 n ≡ g .words
+  pub origins : column l a 1 n ≡ map originWord (g .origins)
+  pub edges : (i j : ℕ) → j < a → i * a + j < e → getD l (edgePlace a i j) 0 ≡ edgeWord (edge a g i j)
+  pub rest : drop (recordPlace a n) l ≡ drop (recordPlace a n) l₀
+
+abbrev pub Mid : List ℕ → Result → Explored → List ℕ → ℕ → ℕ → Type 0
+Mid l₀ (Done g) r l a e = (r ≡ Whole (count g) (links g)) × Kept l₀ l a (count g) (links g) e g
+Mid l₀ Over r l a e = r ≡ Full
+
+abbrev pub Fair : ℕ → ℕ → Explored → Type 0
+Fair n e (Whole m x) = (n ≤ m) × (m ≤ mostNodes) × (x ≤ e)
+Fair n e Full = Unit {0}
+
+pub record Turned (f : Graph → Result) (l : List ℕ) (a n x e : ℕ) (r : Explored) (l′ : List ℕ) (e′ : ℕ) : Type 0 where
+  pub fair : Fair n e′ r
+  pub tail : drop graphWords l′ ≡ drop graphWords l
+  pub held : (l₀ : List ℕ) (g : Graph) → Kept l₀ l a n x e g → Mid l₀ (f g) r l′ a e′
+
+abbrev pub Filled : ℕ → Result → Explored → List ℕ → List ℕ → Type 0
+Filled a (Done g) r l₀ l = (r ≡ Whole (count g) (links g)) × (l ≡ recordsOf a g (count g) ++ drop (recordPlace a (count g)) l₀)
+Filled a Over r l₀ l = (r ≡ Full) × (drop graphWords l ≡ drop graphWords l₀)

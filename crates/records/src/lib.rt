@@ -1,0 +1,152 @@
+// The records of a graph in a lent list of words.
+ghost use mathlib.Core.Path.{_≡_};
+ghost use mathlib.Core.List.{_++_};
+ghost use Prim.Native.Nat.{_+_, _*_, _<_, _≤_};
+ghost use lib.ListN.{length, drop, getD, set, replicate};
+ghost use Rattle.search.specs.Search.{To, None, Root, From, seek, answered};
+ghost use Rattle.records.specs.Records.{edgeWord, originWord, mostNodes, graphWords, stride, recordPlace, edgePlace, column};
+ghost use Rattle.records.specs.Steps.{Turned};
+
+// What a search answers.
+pub enum Explored {
+    // The number of nodes, and of edges that lead to a node.
+    Whole(usize, usize),
+    // One node too many.
+    Full,
+}
+
+// How many words of a record come before its edges: the node's word and its origin.
+const HEADER: usize = 2;
+
+// The most nodes that there may be.
+const NODES: usize = 512;
+
+// How many words the records have room in.
+pub const ROOM: usize = 9216;
+
+// Where the record of node k begins.
+pub fn record_place(actions: usize, k: usize) -> usize
+    requires { ⌜ (actions ≤ 16) × (k < mostNodes) ⌝ }
+    ensures { λ r. ⌜ (r ≡ recordPlace actions k) × (r + stride actions ≤ graphWords) ⌝ }
+{
+    k * (HEADER + actions)
+}
+
+// Where the edge of node k and action j stands.
+fn edge_place(actions: usize, k: usize, j: usize) -> usize
+    requires { ⌜ (actions ≤ 16) × (k < mostNodes) × (j < actions) ⌝ }
+    ensures { λ r. ⌜ (r ≡ edgePlace actions k j) × (r < graphWords) ⌝ }
+{
+    record_place(actions, k) + (HEADER + j)
+}
+
+// The word of an edge to node m.
+fn edge_word(m: usize) -> u32
+    requires { ⌜ m < mostNodes ⌝ }
+    ensures { λ r. ⌜ r ≡ edgeWord (To m) ⌝ }
+{
+    0xC000_0000 + m as u32
+}
+
+// The word of a node's origin: node k, by action j.
+fn origin_word(k: usize, j: usize) -> u32
+    requires { ⌜ (k < mostNodes) × (j < 16) ⌝ }
+    ensures { λ r. ⌜ r ≡ originWord (From k j) ⌝ }
+{
+    0xB000_0000 + (k as u32 * 16 + j as u32)
+}
+
+// The first n words become zero.
+pub fn clear(list: &mut [u32], n: usize)
+    requires { ⌜ n ≤ length (now list) ⌝ }
+    ensures { λ _. ⌜ now (list .exit) ≡ replicate n 0 ++ drop n (now (list .entry)) ⌝ }
+{
+    let mut i: usize = 0;
+    while i < n {
+        list[i] = 0;
+        i += 1;
+    }
+}
+
+// The first of n nodes whose word is w, or n.
+fn find(graph: &[u32], n: usize, actions: usize, w: u32) -> usize
+    requires { ⌜ (graphWords ≤ length (now graph)) × (n ≤ mostNodes) × (actions ≤ 16) ⌝ }
+    ensures { λ r. ⌜ r ≡ seek w (column (now (graph .entry)) actions 0 n) ⌝ }
+{
+    let step = HEADER + actions;
+    let mut i: usize = 0;
+    let at = loop {
+        if n <= i {
+            break i;
+        }
+        if graph[i * step] == w {
+            break i;
+        }
+        i += 1;
+    };
+    at
+}
+
+// The word of node k.
+pub fn word_at(graph: &[u32], actions: usize, k: usize) -> u32
+    requires { ⌜ (graphWords ≤ length (now graph)) × (actions ≤ 16) × (k < mostNodes) ⌝ }
+    ensures { λ r. ⌜ r ≡ getD (now (graph .entry)) (recordPlace actions k) 0 ⌝ }
+{
+    let at = record_place(actions, k);
+    graph[at]
+}
+
+// Node 0, as yet without edges.
+pub fn begin(graph: &mut [u32], w: u32)
+    requires { ⌜ 2 ≤ length (now graph) ⌝ }
+    ensures { λ _. ⌜ now (graph .exit) ≡ set (set (now (graph .entry)) 0 w) 1 (originWord Root) ⌝ }
+{
+    graph[0] = w;
+    graph[1] = 0xB000_1FFF;
+}
+
+// Action j has no successor at node k.
+pub fn enter_none(
+    graph: &mut [u32],
+    nodes: usize,
+    edges: usize,
+    actions: usize,
+    k: usize,
+    j: usize,
+) -> Explored
+    requires { ⌜ (graphWords ≤ length (now graph)) × (nodes ≤ mostNodes) × (actions ≤ 16) × (k < nodes) × (j < actions) × (edges ≤ k * actions + j) ⌝ }
+    ensures { λ r. ⌜ Turned (λ h. answered mostNodes h (From k j) None) (now (graph .entry)) actions nodes edges (k * actions + j) r (now (graph .exit)) (k * actions + j + 1) ⌝ }
+{
+    let place = edge_place(actions, k, j);
+    graph[place] = 0xCFFF_FFFF;
+    Explored::Whole(nodes, edges)
+}
+
+// Action j leads from node k to the word w: its edge, and the record of w if it is new.
+pub fn enter(
+    graph: &mut [u32],
+    nodes: usize,
+    edges: usize,
+    actions: usize,
+    k: usize,
+    j: usize,
+    w: u32,
+) -> Explored
+    requires { ⌜ (graphWords ≤ length (now graph)) × (nodes ≤ mostNodes) × (actions ≤ 16) × (k < nodes) × (j < actions) × (edges ≤ k * actions + j) ⌝ }
+    ensures { λ r. ⌜ Turned (λ h. answered mostNodes h (From k j) (To w)) (now (graph .entry)) actions nodes edges (k * actions + j) r (now (graph .exit)) (k * actions + j + 1) ⌝ }
+{
+    let at = find(&graph[..], nodes, actions, w);
+    let place = edge_place(actions, k, j);
+    if at < nodes {
+        graph[place] = edge_word(at);
+        return Explored::Whole(nodes, edges + 1);
+    }
+    if nodes == NODES {
+        return Explored::Full;
+    }
+    let new = record_place(actions, nodes);
+    graph[new] = w;
+    graph[new + 1] = origin_word(k, j);
+    graph[place] = edge_word(nodes);
+    Explored::Whole(nodes + 1, edges + 1)
+}

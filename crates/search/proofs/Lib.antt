@@ -1,0 +1,5 @@
+pub mod Count
+pub mod Sound
+pub mod Theorem
+pub mod Paths
+pub mod Steps
