@@ -1,0 +1,78 @@
+-- The abstract state graph of a program and a lemma list: formula (3) read with "an accepted lemma of the list shows it", and its exploration.
+--
+-- literalsIn — the literals of a set, by rising predicate
+-- sameLiteral, among, allAmong — a literal is one of some; all of some are
+-- lemmaApplies, applies — a lemma applies at an abstract state, for a source, a goal and an index; some lemma of the list does
+-- shown      — the facts that the list shows
+-- successor  — formula (3) for an action; start, for the start
+-- setOf      — a conjunction of literals as a set
+-- answer     — a monomial as the search has it: a node's word is its SETS word
+-- graph      — the graph, or that there are too many nodes
+use mathlib.Core.Bool.{Bool, true, false, cond, _&&_, _||_}
+use mathlib.Core.List.{List, [], _∷_, _++_}
+use Prim.Native.Nat.{ℕ, zero, suc, _+_, _^_}
+use lib.Dec.{eqb}
+use lib.ListN.{length}
+use Rattle.words.specs.Words.{payload, word, SETS}
+use Rattle.grammar.specs.Programs.{Program}
+use Rattle.runs.specs.Runs.{has}
+use Rattle.lemmas.specs.Lemmas.{Lemma, START, accepted}
+use Rattle.formula.specs.Formula.{Literal, B, NotB, Monomial, False, And, Fact, Disabled, Then, formula3}
+use Rattle.search.specs.Search.{Answer, To, None, Result, explored}
+use Rattle.records.specs.Records.{mostNodes}
+
+abbrev pub literalIf : Bool → Literal → List Literal
+literalIf b l = cond b (l ∷ []) []
+
+-- of the predicates below n
+unfoldable pub literalsIn : ℕ → ℕ → List Literal
+literalsIn zero set = []
+literalsIn (suc n) set = literalsIn n set ++ (literalIf (has n set) (B n) ++ literalIf (has (14 + n) set) (NotB n))
+
+abbrev pub sameLiteral : Literal → Literal → Bool
+sameLiteral (B i) (B j) = eqb i j
+sameLiteral (B i) (NotB j) = false
+sameLiteral (NotB i) (B j) = false
+sameLiteral (NotB i) (NotB j) = eqb i j
+
+unfoldable pub among : Literal → List Literal → Bool
+among l [] = false
+among l (m ∷ ms) = sameLiteral l m || among l ms
+
+unfoldable pub allAmong : List Literal → List Literal → Bool
+allAmong [] ms = true
+allAmong (l ∷ ls) ms = among l ms && allAmong ls ms
+
+-- A lemma applies at a node when it is accepted and its premises are all literals of the node.
+abbrev pub lemmaApplies : Program → ℕ → List Literal → ℕ → ℕ → Lemma → Bool
+lemmaApplies p source exp goal index l =
+    accepted p l && eqb (l .source) source && eqb (l .goal) goal && eqb (l .index) index && allAmong (literalsIn 14 (l .premises .0)) exp
+
+unfoldable pub applies : Program → List Lemma → ℕ → List Literal → ℕ → ℕ → Bool
+applies p [] source exp goal index = false
+applies p (l ∷ ls) source exp goal index = lemmaApplies p source exp goal index l || applies p ls source exp goal index
+
+abbrev pub shown : Program → List Lemma → ℕ → List Literal → Fact → Bool
+shown p ls source exp Disabled = applies p ls source exp 0 0
+shown p ls source exp (Then (B j)) = applies p ls source exp 1 j
+shown p ls source exp (Then (NotB j)) = applies p ls source exp 2 j
+
+abbrev pub successor : Program → List Lemma → ℕ → List Literal → Monomial
+successor p ls source exp = formula3 (shown p ls source exp) (length (p .predicates))
+
+abbrev pub start : Program → List Lemma → Monomial
+start p ls = successor p ls START []
+
+-- ---- the exploration
+unfoldable pub setOf : List Literal → ℕ
+setOf [] = 0
+setOf (B j ∷ ms) = 2 ^ j + setOf ms
+setOf (NotB j ∷ ms) = 2 ^ (14 + j) + setOf ms
+
+abbrev pub answer : Monomial → Answer
+answer False = None
+answer (And ms) = To (word SETS (setOf ms))
+
+-- Nodes are taken in number order, actions in number order; a new set of literals gets the next number.
+abbrev pub graph : Program → List Lemma → Result
+graph p ls = explored (λ w j. answer (successor p ls j (literalsIn 14 (payload w)))) (length (p .actions)) mostNodes (answer (start p ls))

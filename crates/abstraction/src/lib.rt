@@ -1,0 +1,1 @@
+// The abstract state graph of a program and a lemma list.
