@@ -12,11 +12,12 @@ use Rattle.integers.proofs.Int.{up, dn}
 use Rattle.integers.proofs.Laws.{Within, within-out, zero-within}
 use Rattle.rows.specs.declared.Row.{Row}
 use Rattle.rows.specs.Rows.{negated}
-use Rattle.rows.specs.Bounds.{Small}
+use Rattle.rows.specs.Bounds.{Small, Room, Read, noRow}
+use Rattle.rows.proofs.Laws.{room-weaken}
 use Rattle.runs.specs.Runs.{has, rowIf, literalRows}
 use Rattle.sums.specs.Sums.{combine, constRow}
-use Rattle.sums.specs.Fits.{noRow, RowFits, Room, Read, Single, Goal}
-use Rattle.sums.proofs.Room.{room-plus, room-weaken, room-small, room-negated, room-const, row-fits}
+use Rattle.sums.specs.Fits.{RowFits, Single, Goal}
+use Rattle.sums.proofs.Room.{room-plus, room-negated, room-const, row-fits}
 use Rattle.acceptance.specs.declared.Sum.{Sum}
 use Rattle.acceptance.specs.Adding.{multOf, addRow, addRows, Fine}
 
@@ -25,14 +26,11 @@ mult-within : (w : ℕ) → Within 65535 (multOf w)
 unfolding up dn
 mult-within w = within-out 65535 (multOf w) (omega arith) (omega arith)
 
-pub read-small : {r : Row} → Read r → Small r
-read-small h = room-small (omega arith) (omega arith) h
-
 read-single : {r : Row} → Read r → Single r
 read-single h = room-weaken (omega arith) (omega arith) h
 
 pub fine-small : {r : Row} → Fine 42 r → Small r
-fine-small h = room-small (omega arith) (omega arith) h
+fine-small h = room-weaken (omega arith) (omega arith) h
 
 fine-weaken : (j k : ℕ) {r : Row} → j ≤ k → Fine j r → Fine k r
 fine-weaken j k h f = room-weaken (omega arith) (omega arith) f

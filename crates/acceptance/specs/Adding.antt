@@ -10,7 +10,7 @@ use lib.IntN.{ℤ, pos}
 use lib.ListN.{getD}
 use Rattle.rows.specs.declared.Row.{Row}
 use Rattle.sums.specs.Sums.{addScaled}
-use Rattle.sums.specs.Fits.{Room}
+use Rattle.rows.specs.Bounds.{Room}
 use Rattle.acceptance.specs.declared.Sum.{Sum}
 
 abbrev pub multOf : ℕ → ℤ

@@ -4,10 +4,10 @@ ghost use mathlib.Core.List.{_++_, map};
 ghost use Prim.Native.Nat.{ℕ, _+_, _<_, _≤_};
 ghost use lib.IntN.{pos};
 ghost use lib.ListN.{length, getD, take, drop};
-ghost use Rattle.rows.specs.Bounds.{Small};
+ghost use Rattle.rows.specs.Bounds.{Small, Read, noRow};
 ghost use Rattle.runs.specs.Runs.{has, rowIf, literalRows};
 ghost use Rattle.sums.specs.Sums.{constRow, combine};
-ghost use Rattle.sums.specs.Fits.{noRow, RowFits, Read, Goal};
+ghost use Rattle.sums.specs.Fits.{RowFits, Goal};
 ghost use Rattle.acceptance.specs.Adding.{multOf, addRow, addRows, Fine};
 use rows::Row;
 

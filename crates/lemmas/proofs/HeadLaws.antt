@@ -15,7 +15,7 @@ use Rattle.words.specs.Words.{bits, payload}
 use Rattle.rows.specs.declared.Row.{Row}
 use Rattle.rows.specs.Rows.{negated}
 use Rattle.grammar.specs.Programs.{Assignment, Action, Program}
-use Rattle.grammar.specs.WellFormed.{Each, Rising, ActionOk, WellFormed}
+use Rattle.grammar.specs.WellFormed.{Each, Few, RowOk, Rising, ActionOk, WellFormed}
 use Rattle.actions.specs.Results.{marked, noMarks}
 use Rattle.programs.specs.declared.Image.{Image}
 use Rattle.programs.proofs.Places.{noneAction}
@@ -144,18 +144,18 @@ module _ (n set : ℕ) where
   unfolding literalCount
   counting-all {i} {t} c l = let none : n - i ≡ 0 = omega arith in let e = rw none at (c .same) in omega (arith, e)
 
--- ---- the rows of a source are few
-action-few : (vars : ℕ) (xs : List Action) (k : ℕ) → Each (ActionOk vars) xs → length (getD xs k noneAction .guards) ≤ 8
-action-few vars [] k p = omega arith
-action-few vars (x ∷ xs) zero p = p .0 .guards .few
-action-few vars (x ∷ xs) (suc k) p = action-few vars xs k (p .1)
+-- ---- the rows of a source are few, and each is good
+action-guards : (vars : ℕ) (xs : List Action) (k : ℕ) → Each (ActionOk vars) xs → Few 8 (RowOk vars) (getD xs k noneAction .guards)
+action-guards vars [] k p = record { few = omega arith; each = tt }
+action-guards vars (x ∷ xs) zero p = p .0 .guards
+action-guards vars (x ∷ xs) (suc k) p = action-guards vars xs k (p .1)
 
-pub source-rows-few : (p : Program) → WellFormed p → (s : ℕ) → length (sourceRows p s) ≤ 8
-source-rows-few p ok s = go (eqb s START)
+pub source-rows-good : (p : Program) → WellFormed p → (s : ℕ) → Few 8 (RowOk (length (p .ranges))) (sourceRows p s)
+source-rows-good p ok s = go (eqb s START)
   where
-    go : (b : Bool) → length (cond b (p .start) (actionOf p s .guards)) ≤ 8
-    go true = ok .start .few
-    go false = action-few (length (p .ranges)) (p .actions) s (ok .actions .each)
+    go : (b : Bool) → Few 8 (RowOk (length (p .ranges))) (cond b (p .start) (actionOf p s .guards))
+    go true = ok .start
+    go false = action-guards (length (p .ranges)) (p .actions) s (ok .actions .each)
 
 -- ---- by the image of a program
 module _ (ws : List ℕ) {g : Image} (h : Held ws g) where
@@ -177,4 +177,4 @@ module _ (ws : List ℕ) {g : Image} (h : Held ws g) where
     rows-known = rw (offers, eg, ew, es, counts ws h 0 .1) (rows-counted p (lemmaOf w s []))
 
     pub source-few : (g .preds ≤ 14) × (x .count ≤ 14)
-    source-few = rw offers (omega (arith, counts ws h 0 .1, counts ws h 0 .4), omega (arith, source-rows-few p (h .accepted .good) (bits 27 20 w)))
+    source-few = rw offers (omega (arith, counts ws h 0 .1, counts ws h 0 .4), omega (arith, source-rows-good p (h .accepted .good) (bits 27 20 w) .few))

@@ -114,7 +114,7 @@ module _ (p : Program) (ok : WellFormed p) where
     abbrev second : ℕ
     second = word SETS (l .premises .0)
 
-    first-is : (kindOf first ≡ LEMMA) × (bits 27 20 first ≡ l .source) × (bits 19 16 first ≡ l .goal) × (bits 15 8 first ≡ 0) × (bits 7 0 first ≡ l .index)
+    pub first-is : (kindOf first ≡ LEMMA) × (bits 27 20 first ≡ l .source) × (bits 19 16 first ≡ l .goal) × (bits 15 8 first ≡ 0) × (bits 7 0 first ≡ l .index)
     first-is =
         let a = source-lt (l .source) (good .source) in
         let (b, c) = goal-lt (l .source) (l .goal) (l .index) (good .goal) in

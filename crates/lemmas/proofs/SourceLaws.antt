@@ -64,7 +64,7 @@ module _ (ws : List ℕ) {g : Image} (h : Held ws g) (k : ℕ) where
       place-is =
           let m = counts .5 in
           let n = length-places encodeAction (firstAction p) (p .actions) in
-          ap (λ (y : Image). getD (y .«action_at») k 0) (h .same) ∙ stored-at 16 (places encodeAction (firstAction p) (p .actions)) k (omega (arith, known)) (omega arith)
+          ap (λ (y : Image). getD (y .«action_at») k 0) (h .same) ∙ stored-at 16 0 (places encodeAction (firstAction p) (p .actions)) k 0 (omega (arith, known)) (omega arith)
 
       pub place-within : (g .vars ≤ 8) × (place ≤ length ws) × (k < 16)
       place-within = (omega (arith, counts .2, counts .3), omega (arith, place-is, action-k ws p k (h .accepted) known .here), omega (arith, known, counts .5))

@@ -71,7 +71,7 @@ found-in ws k p ok h =
     let n = length-places encodeAction (firstAction p) (p .actions) in
     let t = action-k ws p k ok h in
     let at = getD (places encodeAction (firstAction p) (p .actions)) k 0 in
-    let same : getD (sets (replicate 16 0) 0 (places encodeAction (firstAction p) (p .actions))) k 0 ≡ at = stored-at 16 (places encodeAction (firstAction p) (p .actions)) k (omega arith) (omega arith) in
+    let same : getD (sets (replicate 16 0) 0 (places encodeAction (firstAction p) (p .actions))) k 0 ≡ at = stored-at 16 0 (places encodeAction (firstAction p) (p .actions)) k 0 (omega arith) (omega arith) in
     record {
       few = few;
       small = omega arith;

@@ -1,14 +1,13 @@
 -- The three loops of a program's reader: ranges, actions and forbidden combinations.
-use mathlib.Core.Path.{_≡_, refl, sym, ap, _∙_}
+use mathlib.Core.Path.{_≡_, refl, sym, _∙_}
 use mathlib.Core.Bool.{Bool, true, false}
 use mathlib.Core.List.{List, [], _∷_}
-use Prim.Native.Nat.{ℕ, zero, suc, _+_, _-_, _≤_, _<_}
+use Prim.Native.Nat.{ℕ, suc, _+_, _-_, _≤_, _<_}
 use native.Mathlib.Omega.{arith}
 use native.Mathlib.Numerals.{add-one}
 use native.Mathlib.Nat.{add-zero}
 use lib.Dec.{ltb}
 use lib.ListN.{length, getD, set, drop, replicate}
-use lib.Seq.{sets}
 use Rattle.words.specs.Words.{literalsOf, noLiterals, VAR, ACTION, SETS}
 use Rattle.words.specs.declared.Refusal.{Refusal}
 use Rattle.words.specs.declared.Refusal.the-variants.{Word}
@@ -28,7 +27,6 @@ use Rattle.reader.proofs.Laws.{head-refused, head-taken}
 use Rattle.reader.proofs.RowsLoop.{answer-refused, answer-at, left-is, left-within}
 use Rattle.actions.specs.declared.ActionRead.{ActionRead}
 use Rattle.actions.specs.Results.{actionRead}
-use Rattle.programs.specs.declared.Ranges.{Ranges}
 use Rattle.programs.specs.declared.Actions.{Actions}
 use Rattle.programs.specs.declared.Forbidden.{Forbidden}
 use Rattle.programs.specs.Images.{rangesFrom, zeroRanges, noRanges, places, actionsFrom, noActions, forbiddenFrom, noForbidden}

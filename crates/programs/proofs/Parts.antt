@@ -1,30 +1,23 @@
 -- INIT or PRED with its rows, the end, and a program put together of its parts.
-use mathlib.Core.Path.{_≡_, refl, sym, ap, _∙_}
-use mathlib.Core.Bool.{Bool, true, false}
-use mathlib.Core.List.{List, [], _∷_}
-use Prim.Native.Nat.{ℕ, zero, suc, _+_, _*_, _%_, _^_, _-_, _≤_, _<_}
-use native.Mathlib.Omega.{arith}
+use mathlib.Core.Path.{_≡_, refl}
+use mathlib.Core.List.{List, []}
+use Prim.Native.Nat.{ℕ, _*_, _%_, _^_, _-_, _≤_, _<_}
 use native.Mathlib.Nat.{mod-eq-of-lt, one-mul}
 use lib.Pow.{pow-lt}
-use lib.Dec.{leb}
-use lib.ListN.{length, getD, drop, drop-of-length-le}
-use lib.Seq.{drop-cons, sets}
+use lib.ListN.{length, drop, drop-of-length-le}
+use lib.Seq.{drop-cons}
 use Rattle.words.specs.Words.{payload, END}
 use Rattle.words.specs.declared.Refusal.{Refusal}
 use Rattle.words.specs.declared.Refusal.the-variants.{Word}
-use Rattle.rows.specs.declared.Row.{Row}
-use Rattle.grammar.specs.Reading.{Read, got, refused, pure, after, one, always, times}
+use Rattle.grammar.specs.Reading.{got, refused, one, always, times}
 use Rattle.grammar.specs.Grammar.{row, rows, nothing, end}
-use Rattle.grammar.proofs.ReadingLaws.{one-out, times-codec}
+use Rattle.grammar.proofs.ReadingLaws.{times-codec}
 use Rattle.grammar.proofs.RowLaws.{row-codec}
 use Rattle.grammar.proofs.ProgramLaws.{endNamed, atMost}
-use Rattle.reader.specs.declared.Next.{Next}
 use Rattle.reader.specs.declared.Next.the-variants.{At}
-use Rattle.reader.specs.declared.Next.the-variants.{Refused as Stopped}
 use Rattle.reader.specs.declared.Rows.{Rows}
-use Rattle.reader.specs.Results.{nextOf, rowsRead, zeroRows}
-use Rattle.reader.proofs.RowsLoop.{rows-read-refused, rows-read-at}
-use Rattle.programs.specs.declared.Counted.{Counted}
+use Rattle.reader.specs.Results.{rowsRead}
+use Rattle.reader.proofs.RowsLoop.{rows-read-at}
 use Rattle.programs.specs.Images.{countedRead}
 
 -- 1 shifted left

@@ -1,18 +1,18 @@
 -- Where an action of an accepted program begins, and what is read there.
 use mathlib.Core.Path.{_≡_, refl, sym, ap, _∙_}
 use mathlib.Core.Bool.{true, false}
-use mathlib.Core.List.{List, [], _∷_, _++_, map, append-assoc}
+use mathlib.Core.List.{List, [], _∷_, _++_, append-assoc}
 use Prim.Native.Nat.{ℕ, zero, suc, _+_, _-_, _≤_, _<_}
 use native.Mathlib.Omega.{arith}
 use native.Mathlib.Nat.{not-suc-le-zero, le-of-suc-le-suc}
-use lib.ListN.{length, getD, take, drop, replicate, length-append, length-drop, length-replicate, List·getD-eq-default, List·getD-append, List·getD-map, length-map}
+use lib.ListN.{length, getD, take, drop, replicate, length-append, length-drop, length-replicate, List·getD-append}
 use lib.Seq.{sets, sets-eq, drop-append-seam, take-append-seam, drop-drop}
-use Rattle.words.specs.Words.{TERM, INIT, PRED, ACTION}
-use Rattle.grammar.specs.Reading.{Read, Reader, got, refused, begins}
+use Rattle.words.specs.Words.{TERM, INIT, PRED}
+use Rattle.grammar.specs.Reading.{Reader, got, begins}
 use Rattle.grammar.specs.Programs.{Action, Program}
 use Rattle.grammar.specs.Grammar.{action}
 use Rattle.grammar.specs.Encoding.{concat, encodeRange, encodeRows, encodeAction, encodeLiterals}
-use Rattle.grammar.specs.WellFormed.{Each, Few, ActionOk, WellFormed}
+use Rattle.grammar.specs.WellFormed.{Each}
 use Rattle.grammar.proofs.ReadingLaws.{Codec, concat-head}
 use Rattle.grammar.proofs.WordLaws.{literals-codec}
 use Rattle.grammar.proofs.ActionLaws.{action-codec}
@@ -29,10 +29,11 @@ module _ {A : Type 0} (e : A → List ℕ) where
   length-places i (x ∷ xs) = ap suc (length-places (i + length (e x)) xs)
 
 -- a place of a table that was filled from the front
-pub stored-at : (n : ℕ) (ns : List ℕ) (k : ℕ) → k < length ns → length ns ≤ n → getD (sets (replicate n 0) 0 ns) k 0 ≡ getD ns k 0
-stored-at n ns k h l =
-    let room : 0 + length ns ≤ length {A = ℕ} (replicate n 0) = simp length-replicate (omega arith) in
-    ap (λ (m : List ℕ). getD m k 0) (sets-eq ns (replicate n 0) 0 room) ∙ List·getD-append ns (drop (0 + length ns) (replicate n 0)) 0 k h
+module _ {A : Type 0} (n : ℕ) (a : A) (xs : List A) (k : ℕ) (d : A) where
+  pub stored-at : k < length xs → length xs ≤ n → getD (sets (replicate n a) 0 xs) k d ≡ getD xs k d
+  stored-at h l =
+      let room : 0 + length xs ≤ length (replicate n a) = simp length-replicate (omega arith) in
+      ap (λ (m : List A). getD m k d) (sets-eq xs (replicate n a) 0 room) ∙ List·getD-append xs (drop (0 + length xs) (replicate n a)) d k h
 
 -- the k-th of some items whose words stand from index i on
 module _ {A : Type 0} {item : Reader A} {e : A → List ℕ} {P : A → Type 0} (c : Codec item e P) (d : A) (ws tail : List ℕ) (free : begins TERM tail ≡ false) where

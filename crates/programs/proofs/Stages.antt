@@ -1,27 +1,26 @@
 -- The parts of a program, one after the other, by the answers of their readers.
 use mathlib.Core.Path.{_≡_, refl, sym, ap, _∙_}
-use mathlib.Core.Bool.{Bool, true, false}
-use mathlib.Core.List.{List, [], _∷_, _++_}
-use Prim.Native.Nat.{ℕ, zero, suc, _+_, _^_, _≤_, _<_}
+use mathlib.Core.Bool.{false}
+use mathlib.Core.List.{List}
+use Prim.Native.Nat.{ℕ, _+_, _^_, _≤_, _<_}
 use native.Mathlib.Omega.{arith}
 use native.Mathlib.Nat.{zero-add}
 use lib.Dec.{eqb}
-use lib.ListN.{length, drop, replicate, length-append}
+use lib.ListN.{length, drop, replicate}
 use lib.Seq.{sets}
 use Rattle.words.specs.Words.{noLiterals, TERM, INIT, PRED, ACTION, SETS}
 use Rattle.words.specs.declared.Refusal.{Refusal}
 use Rattle.words.specs.declared.Literals.{Literals}
 use Rattle.rows.specs.declared.Range.{Range}
 use Rattle.rows.specs.declared.Row.{Row}
-use Rattle.grammar.specs.Reading.{Read, got, refused, pure, after, many}
-use Rattle.grammar.specs.Programs.{Action, Program}
+use Rattle.grammar.specs.Reading.{Read, got, refused, after, many}
+use Rattle.grammar.specs.Programs.{Action}
 use Rattle.grammar.specs.Grammar.{ranges, rows, action, combination, end, program}
 use Rattle.grammar.specs.Encoding.{concat, encodeRange, encodeRows, encodeAction}
 use Rattle.grammar.proofs.ReadingLaws.{many-out}
 use Rattle.grammar.proofs.WordLaws.{literals-codec, literals-full}
 use Rattle.grammar.proofs.ActionLaws.{action-codec, action-full}
 use Rattle.grammar.proofs.ProgramLaws.{ranges-out, rows-codec}
-use Rattle.reader.specs.declared.Next.{Next}
 use Rattle.reader.specs.declared.Next.the-variants.{At}
 use Rattle.reader.specs.declared.Next.the-variants.{Refused as Stopped}
 use Rattle.reader.specs.Results.{nextOf, zeroRows}
@@ -31,8 +30,7 @@ use Rattle.programs.specs.declared.Ranges.{Ranges}
 use Rattle.programs.specs.declared.Counted.{Counted}
 use Rattle.programs.specs.declared.Actions.{Actions}
 use Rattle.programs.specs.declared.Forbidden.{Forbidden}
-use Rattle.programs.specs.declared.Loaded.{Loaded}
-use Rattle.programs.specs.Images.{rangesFrom, zeroRanges, countedRead, places, actionsFrom, forbiddenFrom, firstAction, loaded, Rest, rest, imageWith, restLoaded}
+use Rattle.programs.specs.Images.{rangesFrom, zeroRanges, countedRead, places, actionsFrom, forbiddenFrom, Rest, rest, imageWith, restLoaded}
 
 -- ---- what each reader's answer says
 ranges-next : (m : Read (List Range)) → rangesFrom zeroRanges 0 0 m .next ≡ nextOf m

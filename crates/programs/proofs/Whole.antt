@@ -1,7 +1,7 @@
 -- A program from its ranges, start rows, predicates and the rest.
 use mathlib.Core.Path.{_≡_, refl, sym, ap, subst, _∙_}
-use mathlib.Core.List.{List, [], _∷_, _++_}
-use Prim.Native.Nat.{ℕ, _+_, _≤_, _<_}
+use mathlib.Core.List.{List, _++_}
+use Prim.Native.Nat.{ℕ, _+_}
 use native.Mathlib.Omega.{arith}
 use lib.ListN.{length, drop, length-append}
 use lib.Seq.{sets}
@@ -17,8 +17,7 @@ use Rattle.grammar.specs.Encoding.{concat, encodeRange, encodeRows}
 use Rattle.reader.specs.Results.{zeroRows}
 use Rattle.programs.specs.declared.Ranges.{Ranges}
 use Rattle.programs.specs.declared.Counted.{Counted}
-use Rattle.programs.specs.declared.Loaded.{Loaded}
-use Rattle.programs.specs.Images.{zeroRanges, firstAction, loaded, Rest, rest, restLoaded}
+use Rattle.programs.specs.Images.{zeroRanges, loaded, Rest, rest, restLoaded}
 use Rattle.programs.proofs.Stages.{RangesAt, CountedAt}
 
 abbrev programOf : List Range → List Row → List Row → Rest → Program

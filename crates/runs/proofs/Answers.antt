@@ -19,7 +19,7 @@ use Rattle.grammar.specs.Encoding.{encodeAction}
 use Rattle.grammar.specs.WellFormed.{Each, ActionOk}
 use Rattle.grammar.proofs.ProgramLaws.{accepted}
 use Rattle.actions.specs.declared.ActionRead.{ActionRead}
-use Rattle.actions.specs.Results.{actionRead, keepRows}
+use Rattle.actions.specs.Results.{actionRead}
 use Rattle.programs.specs.declared.Image.{Image}
 use Rattle.programs.specs.declared.Loaded.{Loaded}
 use Rattle.programs.specs.declared.Status.the-variants.{Ready, Failed}
@@ -30,7 +30,7 @@ use Rattle.runs.specs.declared.Stepped.the-variants.{Refused}
 use Rattle.runs.specs.Runs.{lowestOff, actionOf, step}
 use Rattle.runs.specs.Calls.{stay, outcome, stepped, stepCall}
 use Rattle.runs.specs.Values.{padded, SmallRows, tried}
-use Rattle.runs.proofs.Sizes.{front-stored, guards-small, rows-small, keeps-small, ranges-small, state-small}
+use Rattle.runs.proofs.Sizes.{front-stored, guards-read, new-rows-read, read-small, ranges-small, state-small}
 use Rattle.runs.proofs.Tried.{tried-is}
 
 pub step-refused : (m : Read Program) (k : ℕ) (s : List ℤ) {x : Loaded} {r : Refusal} → x ≡ loaded m → x .status ≡ Failed r → stay (Refused r) s ≡ stepped m k s
@@ -94,7 +94,7 @@ module _ (ws : List ℕ) (p : Program) {us : List ℕ} {i : ℕ} (q : read ws �
             let ok = accepted ws p us i q in
             let n = length-places encodeAction (firstAction p) (p .actions) in
             let most = ok .good .actions .few in
-            let same : place ≡ getD (places encodeAction (firstAction p) (p .actions)) k 0 = stored-at 16 (places encodeAction (firstAction p) (p .actions)) k (omega arith) (omega arith) in
+            let same : place ≡ getD (places encodeAction (firstAction p) (p .actions)) k 0 = stored-at 16 0 (places encodeAction (firstAction p) (p .actions)) k 0 (omega arith) (omega arith) in
             let t = action-k ws p k ok known in
             let a = actionOf p k in
             let good = each-at (p .actions) (length (p .ranges)) k (ok .good .actions .each) known in
@@ -102,8 +102,8 @@ module _ (ws : List ℕ) (p : Program) {us : List ℕ} {i : ℕ} (q : read ws �
             let f : y ≡ actionRead (got a (t .rest) end) = rw (same, t .read) at e in
             rw f (record {
               guards-few = omega (arith, good .guards .few);
-              guards-good = guards-small (length (p .ranges)) (a .guards) (good .guards .each);
-              rows-good = rows-small (length (p .ranges)) keepRows 0 (a .sets) keeps-small (good .rising);
+              guards-good = λ i. read-small (guards-read (length (p .ranges)) (a .guards) (good .guards .each) i);
+              rows-good = λ i. read-small (new-rows-read (length (p .ranges)) (a .sets) (good .rising) i);
               is-step = tried-is (p .ranges) a s (t .rest) end l few good ∙ on-range;
             })
 

@@ -1,7 +1,7 @@
 -- One turn of each loop over a state.
 use mathlib.Core.Path.{_≡_, refl, sym, ap, _∙_}
 use mathlib.Core.Bool.{true, false, cond, _&&_}
-use mathlib.Core.List.{List, [], _∷_, _++_}
+use mathlib.Core.List.{List, _∷_, _++_}
 use Prim.Native.Nat.{ℕ, suc, _+_, _-_, _≤_, _<_}
 use native.Mathlib.Omega.{arith}
 use native.Mathlib.Numerals.{add-one}
@@ -10,13 +10,11 @@ use lib.Signed.{leZ, ltZ}
 use lib.ListN.{length, getD, set, take, drop, replicate, drop-of-length-le}
 use lib.Seq.{drop-cons, take-suc, set-at, length-take-le, append-snoc}
 use Rattle.integers.proofs.Tests.{ltZ-true, ltZ-false, lt-leZ, le-leZ}
+use Rattle.rows.specs.Bounds.{noRow}
 use Rattle.rows.specs.declared.Row.{Row}
 use Rattle.rows.specs.declared.Range.{Range}
 use Rattle.rows.specs.Rows.{zeroRange}
 use Rattle.runs.specs.Runs.{holds, within, lowestOff, allHold}
-
-abbrev pub noRow : Row
-noRow = record { coef = []; constant = pos 0 }
 
 -- ---- a list copied from the front over another
 pub copied-next : (p : List ℤ) (y : ℤ) (ys : List ℤ) (v : ℕ) (s : List ℤ) → v < length s → p ≡ take v s ++ y ∷ ys → set p v (getD s v (pos 0)) ≡ take (v + 1) s ++ ys

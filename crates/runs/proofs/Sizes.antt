@@ -1,28 +1,26 @@
 -- The numbers of an accepted program are small enough to compute with, and its parts stand in the arrays of its image.
-use mathlib.Core.Path.{_≡_, refl, sym, ap, _∙_, subst}
+use mathlib.Core.Path.{_≡_, refl, sym, ap, _∙_}
 use mathlib.Core.List.{List, [], _∷_, _++_, map}
 use Prim.Native.Nat.{ℕ, zero, suc, _+_, _-_, _*_, _≤_, _<_}
 use native.Mathlib.Omega.{arith}
 use native.Mathlib.Nat.{not-suc-le-zero, le-of-suc-le-suc}
 use native.Mathlib.Decide.{ℕ-discrete, decLt}
-use lib.IntN.{ℤ, pos, negsuc, _+ℤ_, _*ℤ_}
-use lib.Signed.{_≤ℤ_, leZ-yes}
-use lib.ListN.{length, getD, set, take, drop, replicate, length-set, length-append, length-replicate, length-map, List·getD-eq-default, List·getD-append}
-use lib.Seq.{sets, sets-eq, take-append-seam, getD-set-same, getD-set-other, set-out, ext-getD, getD-append-add}
+use lib.IntN.{ℤ, pos, negsuc, _*ℤ_}
+use lib.ListN.{length, getD, set, take, drop, replicate, length-replicate}
+use lib.Seq.{sets, sets-eq, take-append-seam, getD-set-same, getD-set-other, set-out, ext-getD}
 use Rattle.integers.proofs.Int.{var, num, _⊕_, _⊗_, equal}
-use Rattle.integers.proofs.Laws.{Within, within-weaken, literal, zero-within, le-trans}
+use Rattle.integers.proofs.Laws.{Within, literal, zero-within, le-trans}
 use Rattle.rows.specs.declared.Row.{Row}
 use Rattle.rows.specs.declared.Range.{Range}
 use Rattle.rows.specs.Rows.{dot, rowValue, zeroRange}
-use Rattle.rows.specs.Bounds.{small, maxCoef, maxConst, maxState, Small, SmallRange, smallRanges}
-use Rattle.grammar.specs.Programs.{Assignment, Action, Program}
-use Rattle.grammar.specs.WellFormed.{Between, Each, Few, RangeOk, RowOk, SetOk, Rising, ActionOk, WellFormed}
+use Rattle.rows.specs.Bounds.{small, maxState, Small, SmallRange, smallRanges, Read, noRow}
+use Rattle.rows.proofs.Laws.{room-weaken}
+use Rattle.grammar.specs.Programs.{Assignment}
+use Rattle.grammar.specs.WellFormed.{Between, Each, RangeOk, RowOk, Rising}
 use Rattle.reader.specs.Results.{zeroRow, zeroRows}
 use Rattle.actions.specs.Results.{keepRow, keepRows, assigned}
 use Rattle.programs.specs.Images.{zeroRanges}
 use Rattle.runs.specs.Runs.{within, lowestOff, put}
-use Rattle.runs.specs.Values.{padded, SmallRows}
-use Rattle.runs.proofs.Loops.{noRow}
 use Rattle.runs.proofs.Trying.{first-on, within-small}
 
 -- ---- something holds at every place of a list, past its end too
@@ -30,7 +28,7 @@ module _ {A : Type 0} (P : A → Type 0) (d : A) where
   abbrev Everywhere : List A → Type 0
   Everywhere xs = (k : ℕ) → P (getD xs k d)
 
-  every-set : (xs : List A) (i : ℕ) (a : A) → Everywhere xs → P a → Everywhere (set xs i a)
+  pub every-set : (xs : List A) (i : ℕ) (a : A) → Everywhere xs → P a → Everywhere (set xs i a)
   every-set xs i a h p k = elim (ℕ-discrete k i) [
     | yes e ↦ elim (decLt i (length xs)) [
       | yes l ↦ rw (e, getD-set-same xs i a d l) p
@@ -63,42 +61,47 @@ front-stored n d xs h =
 between-within : {B : ℕ} {lo hi z : ℤ} → Within B lo → Within B hi → Between lo hi z → Within B z
 between-within l h p = record { low = le-trans (l .low) (p .0); high = le-trans (p .1) (h .high) }
 
-each-within : (cs : List ℤ) → Each (Between (negsuc 999) (pos 1000)) cs → small maxCoef cs
-each-within [] p k = zero-within maxCoef
+each-within : (cs : List ℤ) → Each (Between (negsuc 999) (pos 1000)) cs → small 1000 cs
+each-within [] p k = zero-within 1000
 each-within (c ∷ cs) p zero = between-within (literal tt tt) (literal tt tt) (p .0)
 each-within (c ∷ cs) p (suc k) = each-within cs (p .1) k
 
-row-small : {vars : ℕ} {r : Row} → RowOk vars r → Small r
-row-small {r = r} p = record { coefs = each-within (r .coef) (p .small); const = between-within (literal tt tt) (literal tt tt) (p .constant) }
+row-read : {vars : ℕ} {r : Row} → RowOk vars r → Read r
+row-read {r = r} p = record { coefs = each-within (r .coef) (p .small); const = between-within (literal tt tt) (literal tt tt) (p .constant) }
 
-no-row-small : Small noRow
-no-row-small = record { coefs = λ k. zero-within maxCoef; const = zero-within maxConst }
+pub read-small : {r : Row} → Read r → Small r
+read-small h = room-weaken (omega arith) (omega arith) h
 
-zero-row-small : Small zeroRow
-zero-row-small = record { coefs = every-copy (Within maxCoef) (pos 0) 8 (pos 0) (zero-within maxCoef) (zero-within maxCoef); const = zero-within maxConst }
+abbrev pub ReadRows : List Row → Type 0
+ReadRows rs = (k : ℕ) → Read (getD rs k noRow)
 
-each-small : (vars : ℕ) (rs : List Row) → Each (RowOk vars) rs → Each Small rs
-each-small vars [] p = tt
-each-small vars (r ∷ rs) p = (row-small (p .0), each-small vars rs (p .1))
+no-row-read : Read noRow
+no-row-read = record { coefs = λ k. zero-within 1000; const = zero-within 1000000 }
 
-pub guards-small : (vars : ℕ) (rs : List Row) → Each (RowOk vars) rs → SmallRows (sets zeroRows 0 rs)
-guards-small vars rs p = every-sets Small noRow zeroRows 0 rs (every-copy Small noRow 14 zeroRow zero-row-small no-row-small) (each-small vars rs p)
+pub zeros-small : small 1000 (replicate 8 (pos 0))
+zeros-small = every-copy (Within 1000) (pos 0) 8 (pos 0) (zero-within 1000) (zero-within 1000)
 
-keep-small : (v : ℕ) → Small (keepRow v)
-keep-small v =
-    record {
-      coefs = every-set (Within maxCoef) (pos 0) (replicate 8 (pos 0)) v (pos 1) (every-copy (Within maxCoef) (pos 0) 8 (pos 0) (zero-within maxCoef) (zero-within maxCoef)) (literal tt tt);
-      const = zero-within maxConst;
-    }
+each-read : (vars : ℕ) (rs : List Row) → Each (RowOk vars) rs → Each Read rs
+each-read vars [] p = tt
+each-read vars (r ∷ rs) p = (row-read (p .0), each-read vars rs (p .1))
 
-pub rows-small : (vars : ℕ) (rs : List Row) (v : ℕ) (ss : List Assignment) → SmallRows rs → Rising vars v ss → SmallRows (assigned rs ss)
+pub guards-read : (vars : ℕ) (rs : List Row) → Each (RowOk vars) rs → ReadRows (sets zeroRows 0 rs)
+guards-read vars rs p = every-sets Read noRow zeroRows 0 rs (every-copy Read noRow 14 zeroRow (record { coefs = zeros-small; const = zero-within 1000000 }) no-row-read) (each-read vars rs p)
+
+keep-read : (v : ℕ) → Read (keepRow v)
+keep-read v = record { coefs = every-set (Within 1000) (pos 0) (replicate 8 (pos 0)) v (pos 1) zeros-small (literal tt tt); const = zero-within 1000000 }
+
+rows-read : (vars : ℕ) (rs : List Row) (v : ℕ) (ss : List Assignment) → ReadRows rs → Rising vars v ss → ReadRows (assigned rs ss)
 unfolding assigned
-rows-small vars rs v [] h p = h
-rows-small vars rs v (x ∷ ss) h p = rows-small vars (set rs (x .variable) (x .row)) (suc (x .variable)) ss (every-set Small noRow rs (x .variable) (x .row) h (row-small (p .0 .row))) (p .1)
+rows-read vars rs v [] h p = h
+rows-read vars rs v (x ∷ ss) h p = rows-read vars (set rs (x .variable) (x .row)) (suc (x .variable)) ss (every-set Read noRow rs (x .variable) (x .row) h (row-read (p .0 .row))) (p .1)
 
-pub keeps-small : SmallRows keepRows
-keeps-small = every-each Small noRow keepRows no-row-small
-    (keep-small 0, (keep-small 1, (keep-small 2, (keep-small 3, (keep-small 4, (keep-small 5, (keep-small 6, (keep-small 7, tt))))))))
+keeps-read : ReadRows keepRows
+keeps-read = every-each Read noRow keepRows no-row-read
+    (keep-read 0, (keep-read 1, (keep-read 2, (keep-read 3, (keep-read 4, (keep-read 5, (keep-read 6, (keep-read 7, tt))))))))
+
+pub new-rows-read : (vars : ℕ) (ss : List Assignment) → Rising vars 0 ss → ReadRows (assigned keepRows ss)
+new-rows-read vars ss p = rows-read vars keepRows 0 ss keeps-read p
 
 range-small : {g : Range} → RangeOk g → SmallRange g
 range-small p =

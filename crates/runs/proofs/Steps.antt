@@ -8,16 +8,16 @@ use native.Mathlib.Omega.{arith}
 use lib.Dec.{ltb}
 use lib.IntN.{ℤ}
 use lib.ListN.{length}
-use borrow.Author.Tests.{lt-ltb, le-ltb, eq-eqb, ltb-false}
+use borrow.Author.Tests.{ltb-false}
 use Rattle.rows.specs.declared.Range.{Range}
 use Rattle.grammar.specs.Reading.{got}
 use Rattle.grammar.specs.Programs.{Program}
 use Rattle.programs.specs.Calls.{read}
 use Rattle.runs.specs.declared.Stepped.the-variants.{RunsOff}
-use Rattle.runs.specs.Runs.{Outcome, Ending, Finished, Inside, within, lowestOff, step, landed, enabled, assigned, actionOf, run}
+use Rattle.runs.specs.Runs.{Outcome, Finished, Inside, within, lowestOff, step, landed, enabled, assigned, actionOf, run}
 use Rattle.runs.proofs.Answers.{on-range}
 use Rattle.runs.proofs.Trying.{put-length}
-use Rattle.runs.specs.Calls.{Stepping, stay, outcome, stepCall}
+use Rattle.runs.specs.Calls.{Stepping, outcome, stepCall}
 
 -- t is left by trying action k on s: by a move, or because the action is not enabled
 abbrev pub Leaves : Program → ℕ → List ℤ → List ℤ → Type 0

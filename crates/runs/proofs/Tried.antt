@@ -1,8 +1,8 @@
 -- Trying an action on arrays is the step of the definitions.
 use mathlib.Core.Path.{_≡_, refl, sym, ap, _∙_, subst}
 use mathlib.Core.Bool.{Bool, true, false, cond}
-use mathlib.Core.List.{List, [], _∷_, _++_, map}
-use Prim.Native.Nat.{ℕ, suc, _+_, _-_, _≤_, _<_}
+use mathlib.Core.List.{List, [], _∷_, map}
+use Prim.Native.Nat.{ℕ, suc, _-_, _≤_, _<_}
 use native.Mathlib.Omega.{arith}
 use lib.Dec.{ltb}
 use lib.IntN.{ℤ, pos}
@@ -12,15 +12,14 @@ use Rattle.rows.specs.declared.Row.{Row}
 use Rattle.rows.specs.declared.Range.{Range}
 use Rattle.rows.specs.Rows.{rowValue, zeroRange}
 use Rattle.grammar.specs.Reading.{got}
-use Rattle.grammar.specs.Programs.{Assignment, Action, Program}
-use Rattle.grammar.specs.WellFormed.{Each, SetOk, Rising, ActionOk}
+use Rattle.grammar.specs.Programs.{Assignment, Action}
+use Rattle.grammar.specs.WellFormed.{Each, Rising, ActionOk}
 use Rattle.reader.specs.Results.{zeroRow, zeroRows}
-use Rattle.actions.specs.declared.ActionRead.{ActionRead}
 use Rattle.actions.specs.Results.{actionRead, keepRows}
 use Rattle.actions.specs.Results.{assigned as newRows}
 use Rattle.programs.specs.Images.{zeroRanges}
 use Rattle.runs.specs.Runs.{Outcome, allHold, lowestOff, put, assigned, enabled, landed}
-use Rattle.runs.specs.Calls.{Stepping, outcome, stay}
+use Rattle.runs.specs.Calls.{outcome, stay}
 use Rattle.runs.specs.declared.Stepped.the-variants.{Moved, NotEnabled, RunsOff}
 use Rattle.runs.specs.Values.{padded, tried}
 use Rattle.runs.proofs.Trying.{all-padded, put-padded, put-length}

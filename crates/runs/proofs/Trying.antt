@@ -1,27 +1,26 @@
 -- Values on their ranges are small, and rows at a state with zeros behind it.
 use mathlib.Core.Path.{_≡_, refl, sym, ap, _∙_}
 use mathlib.Core.Bool.{Bool, true, false, cond}
-use mathlib.Core.List.{List, [], _∷_, _++_, map}
+use mathlib.Core.List.{List, [], _∷_, _++_}
 use Prim.Native.Nat.{ℕ, zero, suc, _+_, _-_, _≤_, _<_}
 use native.Mathlib.Omega.{arith}
 use native.Mathlib.Nat.{not-suc-le-zero, le-of-suc-le-suc}
-use lib.Dec.{ltb}
 use lib.IntN.{ℤ, pos, _+ℤ_, _*ℤ_}
 use lib.Signed.{leZ}
-use lib.ListN.{length, getD, set, take, replicate, length-set, length-append, length-replicate}
-use lib.Seq.{sets, sets-eq, take-append-seam, getD-take, length-take-le, set-append-left}
+use lib.ListN.{length, getD, set, take, replicate, length-set}
+use lib.Seq.{getD-take, length-take-le, set-append-left}
 use mir.Syntax.{w32}
 use mir.Val.{SFits}
 use Rattle.integers.proofs.Int.{var, num, _⊕_, _⊗_, equal}
-use Rattle.integers.proofs.Laws.{Within, within-fits, le-trans, zero-within}
+use Rattle.integers.proofs.Laws.{Within, within-fits, le-trans}
 use Rattle.integers.proofs.Tests.{leZ-true, and-true}
 use Rattle.rows.specs.declared.Row.{Row}
 use Rattle.rows.specs.declared.Range.{Range}
 use Rattle.rows.specs.Rows.{dot, rowValue, zeroRange}
 use Rattle.rows.specs.Bounds.{small, maxState, SmallRange, smallRanges}
-use Rattle.grammar.specs.Programs.{Assignment, Action}
+use Rattle.grammar.specs.Programs.{Assignment}
 use Rattle.grammar.specs.WellFormed.{Each}
-use Rattle.runs.specs.Runs.{holds, within, lowestOff, allHold, put}
+use Rattle.runs.specs.Runs.{within, lowestOff, allHold, put}
 use Rattle.runs.specs.Values.{padded}
 
 -- ---- values on their ranges

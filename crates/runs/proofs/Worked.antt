@@ -1,16 +1,16 @@
 -- That the definitions say something: Fade and House have start states, two steps are a run, and the safety statement is false of a logic
 -- that takes 10 off a level of 5.
-use mathlib.Core.Path.{_≡_, refl, ap}
-use mathlib.Core.Bool.{true, false}
-use mathlib.Core.List.{List, [], _∷_}
-use Prim.Native.Nat.{ℕ, suc, _≤_, _<_}
+use mathlib.Core.Path.{_≡_, refl}
+use mathlib.Core.Bool.{false}
+use mathlib.Core.List.{[], _∷_}
+use Prim.Native.Nat.{ℕ}
 use native.Mathlib.Omega.{arith}
 use lib.IntN.{ℤ, pos, negsuc}
 use Rattle.rows.specs.declared.Row.{Row}
 use Rattle.rows.specs.declared.Range.{Range}
 use Rattle.rows.specs.Rows.{dot}
-use Rattle.grammar.specs.Programs.{Assignment, Action, Program}
-use Rattle.runs.specs.Runs.{Start, allHold, lowestOff, put, run, Safe, SafeRun, Ending, Finished, RanOff}
+use Rattle.grammar.specs.Programs.{Program}
+use Rattle.runs.specs.Runs.{Start, allHold, lowestOff, put, run, Safe, RanOff}
 
 -- a row of the first two variables
 row2 : ℤ → ℤ → ℤ → Row

@@ -11,9 +11,10 @@ use mir.Syntax.{w64}
 use Rattle.integers.proofs.Laws.{Within, within-fits, within-weaken, zero-within, literal, opposite, product, sum}
 use Rattle.rows.specs.declared.Row.{Row}
 use Rattle.rows.specs.Rows.{negated}
-use Rattle.rows.specs.Bounds.{small, Small, maxCoef, maxConst}
+use Rattle.rows.specs.Bounds.{small, Room, Read, noRow}
+use Rattle.rows.proofs.Laws.{room-weaken}
 use Rattle.sums.specs.Sums.{plusTimes, addScaled, combine, constRow, afterwards}
-use Rattle.sums.specs.Fits.{noRow, TermFits, RowFits, Room, Read, Single, After, Goal}
+use Rattle.sums.specs.Fits.{TermFits, RowFits, Single, After, Goal}
 
 -- ---- one row times a number, added to another
 small-plus : {K A a : ℕ} (k : ℤ) (xs bs : List ℤ) → Within K k → small A xs → small a bs → small (A + K * a) (plusTimes k xs bs)
@@ -30,17 +31,11 @@ room-plus {k = k} {s = s} {r = r} hk hs hr =
       const = sum (hs .const) (product hk (hr .const));
     }
 
-pub room-weaken : {A B C D : ℕ} {r : Row} → A ≤ C → B ≤ D → Room A B r → Room C D r
-room-weaken h k p = record { coefs = λ i. within-weaken h (p .coefs i); const = within-weaken k (p .const) }
-
 term-fits : {K A a : ℕ} {x k b : ℤ} → A + K * a < 2 ^ 63 → Within K k → Within A x → Within a b → TermFits x k b
 term-fits h hk hx hb = record { product = within-fits w64 (omega arith) (product hk hb); sum = within-fits w64 h (sum hx (product hk hb)) }
 
 pub row-fits : {K A B a b : ℕ} {k : ℤ} {s r : Row} → A + K * a < 2 ^ 63 → B + K * b < 2 ^ 63 → Within K k → Room A B s → Room a b r → RowFits s k r
 row-fits h g hk hs hr = record { coefs = λ i. term-fits h hk (hs .coefs i) (hr .coefs i); const = term-fits g hk (hs .const) (hr .const) }
-
-pub room-small : {A B : ℕ} {r : Row} → A ≤ maxCoef → B ≤ maxConst → Room A B r → Small r
-room-small h k p = let s = room-weaken h k p in record { coefs = s .coefs; const = s .const }
 
 pub room-negated : {A B : ℕ} (r : Row) → Room A B r → Room A (B + 1) (negated r)
 room-negated r h =

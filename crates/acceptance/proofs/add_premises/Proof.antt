@@ -5,8 +5,9 @@ use native.Mathlib.Omega.{arith}
 use borrow.Author.Needs.{needs}
 use lib.ListN.{length, getD, take}
 use lib.Seq.{length-take-le, getD-take}
-use Rattle.sums.specs.Fits.{noRow}
-use Rattle.acceptance.proofs.Laws.{Premised, LiteralTurn, literal-turn, premised-all, read-small}
+use Rattle.rows.specs.Bounds.{noRow}
+use Rattle.acceptance.proofs.Laws.{Premised, LiteralTurn, literal-turn, premised-all}
+use Rattle.runs.proofs.Sizes.{read-small}
 use Rattle.acceptance.proofs.add_premises.Statement.{statement}
 use Rattle.acceptance.proofs.add_premises.Tie as tie
 

@@ -5,7 +5,7 @@ use native.Mathlib.Omega.{arith}
 use borrow.Author.Needs.{needs}
 use lib.ListN.{length, getD, take}
 use lib.Seq.{length-take-le, getD-take}
-use Rattle.sums.specs.Fits.{noRow}
+use Rattle.rows.specs.Bounds.{noRow}
 use Rattle.acceptance.proofs.Laws.{Added, RowTurn, row-turn, added-all}
 use Rattle.acceptance.proofs.add_rows.Statement.{statement}
 use Rattle.acceptance.proofs.add_rows.Tie as tie

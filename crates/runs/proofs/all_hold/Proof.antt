@@ -2,7 +2,8 @@ use mir.Syntax.{w64}
 use mir.Val.{SFits, toZ, ofZ}
 use mir.Facts.{toZ-ofZ}
 use Rattle.rows.specs.Rows.{rowValue}
-use Rattle.runs.proofs.Loops.{noRow, below-fails, above-holds}
+use Rattle.rows.specs.Bounds.{noRow}
+use Rattle.runs.proofs.Loops.{below-fails, above-holds}
 use mathlib.Core.Path.{_≡_, refl, sym, ap, _∙_}
 use Prim.Native.Nat.{_+_, _-_, _<_, _≤_}
 use native.Mathlib.Omega.{arith}

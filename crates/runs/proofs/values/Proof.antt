@@ -6,7 +6,7 @@ use lib.IntN.{pos}
 use lib.ListN.{length, getD, length-map}
 use Rattle.integers.proofs.Fill.{Filled, filled-none, filled-next, filled-all, getD-mapped}
 use Rattle.rows.specs.Rows.{rowValue}
-use Rattle.runs.proofs.Loops.{noRow}
+use Rattle.rows.specs.Bounds.{noRow}
 use borrow.Author.Needs.{needs}
 use Rattle.runs.proofs.values.Statement.{statement}
 use Rattle.runs.proofs.values.Tie as tie

@@ -1,0 +1,77 @@
+use mathlib.Core.Path.{_∙_, ap}
+use native.Mathlib.Omega.{arith}
+use Rattle.lemmas.specs.Sources.{theProgram}
+use Rattle.ask.specs.Calls.{weighed}
+use Rattle.ask.proofs.Asking.{program-refused, Program-read, program-read, list-refused, Lemmas-read, lemmas-read, no-lemma, place-few, is-lemma, answered}
+use borrow.Author.Needs.{needs}
+use Rattle.ask.proofs.ask.Statement.{statement}
+use Rattle.ask.proofs.ask.Tie as tie
+
+known : (c : tie.After-enum-told) → Program-read (c .before .before .before .before .before .args .words .now) (c .before .before .load .ensures)
+known c = program-read (c .before .before .before .before .before .args .words .now) (c .before .before .load .ensures) (c .enum-told .given .1)
+
+listed-is : (c : tie.After-enum-told2) → let k = known (c .before .before .before .before) in
+    Lemmas-read (c .before .before .before .before .before .before .before .before .before .args .words .now) (theProgram (c .before .before .before .before .before .before .before .before .before .args .words .now)) (k .is) (k .held .accepted .good) (c .before .before .before .before .before .before .before .before .before .args .lemmas .now) (c .before .before .list .ensures) (c .before .before .before .before .before .before .before .before .before .args .k)
+listed-is c = let k = known (c .before .before .before .before) in
+    lemmas-read (c .before .before .before .before .before .before .before .before .before .args .words .now) (theProgram (c .before .before .before .before .before .before .before .before .before .args .words .now)) (k .is) (k .held .accepted .good) (c .before .before .before .before .before .before .before .before .before .args .lemmas .now) (c .before .before .list .ensures) (c .before .before .before .before .before .before .before .before .before .args .k) (c .enum-told2 .given .1)
+
+load-requires : tie.Need-load-requires
+load-requires c κs = search needs
+
+enum-known-status : tie.Need-enum-known-status
+enum-known-status c = search needs
+
+returns : tie.Need-returns
+returns c = program-refused (c .before .before .before .before .before .before .args .words .now) (c .before .before .before .load .ensures) (c .before .before .before .before .before .before .args .lemmas .now) (c .before .before .before .before .before .before .args .k) (c .before .status .given .1)
+
+enum-told : tie.Need-enum-told
+enum-told c = search needs
+
+list-requires : tie.Need-list-requires
+list-requires c κs = known (c .before) .held
+
+enum-known-status-2 : tie.Need-enum-known-status-2
+enum-known-status-2 c = search needs
+
+returns-2 : tie.Need-returns-2
+returns-2 c = let k = known (c .before .before .before .before .before) in list-refused (c .before .before .before .before .before .before .before .before .before .before .args .words .now) (theProgram (c .before .before .before .before .before .before .before .before .before .before .args .words .now)) (k .is) (k .held .accepted .good) (c .before .before .before .before .before .before .before .before .before .before .args .lemmas .now) (c .before .before .before .list .ensures) (c .before .before .before .before .before .before .before .before .before .before .args .k) (c .before .status2 .given .1)
+
+enum-told-2 : tie.Need-enum-told-2
+enum-told-2 c = search needs
+
+returns-3 : tie.Need-returns-3
+returns-3 c = let k = known (c .before .before .before .before .before) in no-lemma (c .before .before .before .before .before .before .before .before .before .before .args .words .now) (theProgram (c .before .before .before .before .before .before .before .before .before .before .args .words .now)) (k .is) (k .held .accepted .good) (c .before .before .before .before .before .before .before .before .before .before .args .lemmas .now) (c .before .before .before .list .ensures) (c .before .before .before .before .before .before .before .before .before .before .args .k) (listed-is (c .before)) (c .if1 .taken)
+
+mul-at : tie.Need-mul-at
+mul-at c = let k = known (c .before .before .before .before .before) in let w = place-few (c .before .before .before .before .before .before .before .before .before .before .args .words .now) (theProgram (c .before .before .before .before .before .before .before .before .before .before .args .words .now)) (k .is) (k .held .accepted .good) (c .before .before .before .before .before .before .before .before .before .before .args .lemmas .now) (c .before .before .before .list .ensures) (c .before .before .before .before .before .before .before .before .before .before .args .k) (listed-is (c .before)) (c .if1 .left) in omega arith
+
+element-copy-out-at : tie.Need-element-copy-out-at
+element-copy-out-at c = let k = known (c .before .before .before .before .before) in place-few (c .before .before .before .before .before .before .before .before .before .before .args .words .now) (theProgram (c .before .before .before .before .before .before .before .before .before .before .args .words .now)) (k .is) (k .held .accepted .good) (c .before .before .before .before .before .before .before .before .before .before .args .lemmas .now) (c .before .before .before .list .ensures) (c .before .before .before .before .before .before .before .before .before .before .args .k) (listed-is (c .before)) (c .if1 .left)
+
+weigh-requires : tie.Need-weigh-requires
+weigh-requires c κs = let k = known (c .before .before .before .before .before .before) in (k .held, is-lemma (c .before .before .before .before .before .before .before .before .before .before .before .args .words .now) (theProgram (c .before .before .before .before .before .before .before .before .before .before .before .args .words .now)) (k .is) (k .held .accepted .good) (c .before .before .before .before .before .before .before .before .before .before .before .args .lemmas .now) (c .before .before .before .before .list .ensures) (c .before .before .before .before .before .before .before .before .before .before .before .args .k) (listed-is (c .before .before)) (c .before .if1 .left))
+
+answer-requires : tie.Need-answer-requires
+answer-requires c κs = search needs
+
+returns-4 : tie.Need-returns-4
+returns-4 c = let k = known (c .before .before .before .before .before .before .before .before) in answered (c .before .before .before .before .before .before .before .before .before .before .before .before .before .args .words .now) (theProgram (c .before .before .before .before .before .before .before .before .before .before .before .before .before .args .words .now)) (k .is) (k .held .accepted .good) (c .before .before .before .before .before .before .before .before .before .before .before .before .before .args .lemmas .now) (c .before .before .before .before .before .before .list .ensures) (c .before .before .before .before .before .before .before .before .before .before .before .before .before .args .k) (listed-is (c .before .before .before .before)) (c .before .before .before .if1 .left) (c .answer .ensures ∙ ap (weighed (c .before .before .before .before .before .before .before .before .before .before .before .before .before .args .k)) (c .before .weigh .ensures))
+
+pub ask-spec : {M : Type 1} → statement M
+ask-spec =
+    tie.close
+    (tie.spec
+    load-requires
+    enum-known-status
+    returns
+    enum-told
+    list-requires
+    enum-known-status-2
+    returns-2
+    enum-told-2
+    returns-3
+    mul-at
+    element-copy-out-at
+    weigh-requires
+    answer-requires
+    returns-4)

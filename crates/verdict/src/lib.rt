@@ -1,0 +1,1 @@
+// Findings, verdicts and paths of a graph.
