@@ -1,0 +1,3 @@
+pub mod Literals
+pub mod ClaimLaws
+pub mod Graphs
