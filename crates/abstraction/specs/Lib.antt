@@ -1,2 +1,3 @@
 pub mod Abstraction
 pub mod Faithful
+pub mod Claims

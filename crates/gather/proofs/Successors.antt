@@ -15,7 +15,7 @@ use Rattle.gather.specs.declared.Successor.the-variants.{Nothing, Set}
 use Rattle.gather.proofs.Shown.{never, Shows, shown-by}
 
 -- ---- the successor
-or-cases : (x y : Bool) → ((x || y) ≡ true) ↔ ((x ≡ true) ⊎ (y ≡ true))
+pub or-cases : (x y : Bool) → ((x || y) ≡ true) ↔ ((x ≡ true) ⊎ (y ≡ true))
 or-cases true y = (λ h. inl refl, λ s. refl)
 or-cases false y = (λ h. inr h, λ s. ⊎-elim (λ h. never h) (λ h. h) s)
 

@@ -1,4 +1,5 @@
 pub mod Count
+pub mod Grown
 pub mod Sound
 pub mod Theorem
 pub mod Paths

@@ -4,36 +4,16 @@ use native.Mathlib.Omega.{arith}
 use native.Mathlib.Nat.{suc-mul, zero-mul, not-suc-le-zero, min-eq-left, min-eq-right, add-zero}
 use mathlib.Core.Path.{_≡_, refl, sym, _∙_}
 use mathlib.Core.Bool.{Bool, true, false}
+use mathlib.Core.Logic.{⊎-elim}
 use mathlib.Core.List.{List, [], _∷_, _++_}
 use borrow.Author.Tests.{ltb-true, ltb-false}
-use borrow.Author.Count.{below-more}
-use lib.ListN.{length, getD, length-append, List·getD-append}
+use lib.ListN.{length, getD, List·getD-append}
 use lib.Seq.{getD-append-seam, getD-at}
 use lib.Dec.{ltb}
 use Rattle.search.specs.Search.{Answer, To, None, Origin, Root, From, Graph, Result, Done, Over, seek, empty, stored, linked, placed, rooted, begun, answered, acted, turns, nodeIf, node, run, explored, count, nodeWord, origin, edge}
 use Rattle.search.specs.Reach.{Reach, first, onward, Distinct, AllOf, Many}
-use Rattle.search.proofs.Count.{same-place, seek-found, seek-bound, seek-le}
-
--- ---- one element more
-len-more {ℓ} : {A : Type ℓ} (xs : List A) (y : A) → length (xs ++ (y ∷ [])) ≡ length xs + 1
-len-more xs y = length-append xs (y ∷ [])
-
--- what holds of each element, and of one more, as a place of the longer list says it
-more {ℓ} : {A : Type ℓ} (P : ℕ → Type 0) (xs : List A) (y : A) → ((i : ℕ) → i < length xs → P i) → P (length xs) → (i : ℕ) → i < length (xs ++ (y ∷ [])) → P i
-more P xs y old new i h = below-more P (length xs) old new i (rw len-more at h)
-
--- h has g's nodes, and perhaps more
-pub record Grown (g h : Graph) : Type 0 where
-  pub longer : count g ≤ count h
-  pub words-kept : (i : ℕ) → i < count g → nodeWord h i ≡ nodeWord g i
-  pub origins-kept : (i : ℕ) → i < count g → origin h i ≡ origin g i
-
-stored-grown : (g : Graph) (o : Origin) (w : ℕ) → length (g .origins) ≡ count g → Grown g (stored g o w)
-stored-grown g o w same = record {
-  longer = omega (arith, len-more (g .words) w);
-  words-kept = λ i h. List·getD-append (g .words) (w ∷ []) 0 i h;
-  origins-kept = λ i h. List·getD-append (g .origins) (o ∷ []) Root i (omega arith);
-}
+use Rattle.search.proofs.Grown.{len-more, more, Grown, stored-grown}
+use Rattle.search.proofs.Count.{lt-or-le, same-place, row-below, seek-found, seek-bound, seek-le}
 
 abbrev pub Begins : List ℕ → Answer → Type 0
 Begins ws (To w) = (0 < length ws) × (getD ws 0 0 ≡ w)
@@ -44,11 +24,16 @@ abbrev pub Leads : (ℕ → ℕ → Answer) → List ℕ → ℕ → ℕ → Ans
 Leads next ws i j (To m) = (m < length ws) × (next (getD ws i 0) j ≡ To (getD ws m 0))
 Leads next ws i j None = next (getD ws i 0) j ≡ None
 
+module _ (next : ℕ → ℕ → Answer) (a : ℕ) where
+  -- no action before action j of node p, in number order, leads to the word w
+  abbrev pub Unled : List ℕ → ℕ → ℕ → ℕ → Type 0
+  Unled ws p j w = (k l : ℕ) → l < a → k * a + l < p * a + j → next (getD ws k 0) l ≡ To w → ⊥
+
 module _ (start : Answer) (next : ℕ → ℕ → Answer) (a : ℕ) where
   -- where node i comes from
   abbrev pub Comes : List ℕ → ℕ → Origin → Type 0
   Comes ws i Root = (i ≡ 0) × (start ≡ To (getD ws i 0))
-  Comes ws i (From p j) = (p < i) × (j < a) × (next (getD ws p 0) j ≡ To (getD ws i 0))
+  Comes ws i (From p j) = (p < i) × (j < a) × (next (getD ws p 0) j ≡ To (getD ws i 0)) × Unled next a ws p j (getD ws i 0)
 
 module _ (start : Answer) (next : ℕ → ℕ → Answer) (a limit : ℕ) where
   pub record Sound (g : Graph) : Type 0 where
@@ -68,7 +53,15 @@ module _ (start : Answer) (next : ℕ → ℕ → Answer) (a limit : ℕ) where
   module _ (g h : Graph) (gr : Grown g h) (i : ℕ) (b : i < count g) where
     comes-kept : (o : Origin) → Comes start next a (g .words) i o → Comes start next a (h .words) i o
     comes-kept Root c = (c .0, rw (gr .words-kept i b) (c .1))
-    comes-kept (From p j) c = (c .0, c .1, rw (gr .words-kept i b, gr .words-kept p (omega arith)) (c .2))
+    comes-kept (From p j) c = (
+      c .0,
+      c .1,
+      rw (gr .words-kept i b, gr .words-kept p (omega arith)) (c .2),
+      λ k l hl lt e. c .3 k l hl lt (rw (gr .words-kept k (before k l lt), gr .words-kept i b) at e),
+    )
+      where
+        before : (k l : ℕ) → k * a + l < p * a + j → k < count g
+        before k l lt = ⊎-elim (λ h. absurd (omega (arith, row-below a p j k (c .1) h))) (λ h. omega (arith, c .0)) (lt-or-le p k)
 
     leads-kept : (j : ℕ) (e : Answer) → Leads next (g .words) i j e → Leads next (h .words) i j e
     leads-kept j (To m) c =
@@ -106,8 +99,18 @@ module _ (start : Answer) (next : ℕ → ℕ → Answer) (a limit : ℕ) where
       all = longer-reached;
     }
 
-    stored-sound : count g < limit → Sound (stored g (From k j) w)
-    stored-sound room =
+    -- each action before has an edge, to a node that is stored already
+    unled : length (g .edges) ≡ k * a + j → (h : Graph) → Grown g h → Unled next a (h .words) k j w
+    unled wide h gr i l hl lt e =
+        let f = s .leads i l hl (omega arith) in
+        go (edge a g i l) (f .1) (rw (gr .words-kept i (f .0)) at e)
+      where
+        go : (x : Answer) → Leads next (g .words) i l x → next (nodeWord g i) l ≡ To w → ⊥
+        go (To m) c q = fresh m (c .0) (let d : To (nodeWord g m) ≡ To w = sym (c .1) ∙ q in cc)
+        go None c q = let z : _≡_ {A = ℕ} 0 1 = cc in omega arith
+
+    stored-sound : count g < limit → length (g .edges) ≡ k * a + j → Sound (stored g (From k j) w)
+    stored-sound room wide =
         let o = From k j in
         let h = stored g o w in
         let gr : Grown g h = stored-grown g o w (s .same) in
@@ -122,7 +125,7 @@ module _ (start : Answer) (next : ℕ → ℕ → Answer) (a limit : ℕ) where
           comes =
               more (λ (i : ℕ). Comes start next a (h .words) i (origin h i)) (g .words) w
               (λ i b. rw (gr .origins-kept i b) (comes-kept g h gr i b (origin g i) (s .comes i b)))
-              (rw (from, at, gr .words-kept k here) (here, hj, gives));
+              (rw (from, at, gr .words-kept k here) (here, hj, gives, unled wide h gr));
           leads = λ i m hm b. let l = s .leads i m hm b in (omega (arith, gr .longer), leads-kept g h gr i (l .0) m (edge a g i m) (l .1));
         }
 
@@ -175,7 +178,7 @@ module _ (start : Answer) (next : ℕ → ℕ → Answer) (a limit : ℕ) where
       new-mid h room =
           let o = From k j in
           let is : seek w (g .words) ≡ count g = omega (arith, seek-bound w (g .words)) in
-          let s : Sound (stored g o w) = stored-sound k g (mid .2) j w (mid .0) hj gives (fresh h) room in
+          let s : Sound (stored g o w) = stored-sound k g (mid .2) j w (mid .0) hj gives (fresh h) room (mid .1) in
           let gr : Grown g (stored g o w) = stored-grown g o w (mid .2 .same) in
           let here : k < count (stored g o w) = omega (arith, gr .longer, mid .0) in
           let there : count g < count (stored g o w) = omega (arith, len-more (g .words) w) in

@@ -3,7 +3,7 @@
 --     stored-once                        no word is stored twice
 --     edge-is                            edge (i, j) is the number at which next (word i) j stands, none exactly if there is none
 --     at-most, over, over-only           it is over exactly if there are more than limit distinct reached words
---     comes                              node 0 is the start's; any other has a parent with a smaller number, which leads to it
+--     comes                              node 0 is the start's; any other has a parent with a smaller number, whose action is the first that leads to it
 use Prim.Native.Nat.{ℕ, suc, _*_, _<_, _≤_}
 use native.Mathlib.Omega.{arith}
 use native.Mathlib.Nat.{min-eq-right}

@@ -1,0 +1,5 @@
+pub mod Literals
+pub mod ClaimLaws
+pub mod Graphs
+pub mod Reached
+pub mod Demand2
