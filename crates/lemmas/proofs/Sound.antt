@@ -94,7 +94,7 @@ hold-append [] ys s h k = k
 hold-append (x ∷ xs) ys s h k = (h .0, hold-append xs ys s (h .1) k)
 
 -- a row that cannot hold fails
-fails : (r : Row) (s : List ℤ) → (Holds r s → ⊥) → holds r s ≡ false
+pub fails : (r : Row) (s : List ℤ) → (Holds r s → ⊥) → holds r s ≡ false
 fails r s f = go (holds r s) refl
   where
     go : (b : Bool) → holds r s ≡ b → holds r s ≡ false

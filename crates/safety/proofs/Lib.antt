@@ -1,0 +1,5 @@
+pub mod Literals
+pub mod Successors
+pub mod NoFinding
+pub mod Ranges
+pub mod Safety

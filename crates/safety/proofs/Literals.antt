@@ -1,0 +1,174 @@
+-- Literals that are true at a state: a set whose literals are among true ones is met, and one that a true literal contradicts is not.
+use mathlib.Core.Path.{_≡_, refl, sym, _∙_}
+use mathlib.Core.Bool.{Bool, true, false}
+use mathlib.Core.Logic.{⊎-elim}
+use mathlib.Core.List.{List, [], _∷_, _++_}
+use Prim.Native.Nat.{ℕ, zero, suc, _+_, _≤_, _<_}
+use native.Mathlib.Nat.{not-suc-le-zero, le-of-suc-le-suc}
+use native.Mathlib.Decide.{ℕ-discrete}
+use native.Mathlib.Omega.{arith}
+use lib.IntN.{ℤ, pos}
+use lib.Signed.{clashℤ}
+use lib.ListN.{length, getD}
+use borrow.Author.Tests.{eqb-true}
+use Rattle.integers.proofs.Tests.{and-true, leZ-true, leZ-false, le-leZ}
+use Rattle.words.specs.declared.Literals.{Literals}
+use Rattle.rows.specs.declared.Row.{Row}
+use Rattle.rows.specs.Rows.{rowValue, negated}
+use Rattle.rows.proofs.Laws.{negation}
+use Rattle.grammar.specs.Programs.{Program}
+use Rattle.grammar.specs.WellFormed.{Each}
+use Rattle.runs.specs.Runs.{holds, allHold, has, rowIf, literalRows, meets}
+use Rattle.sums.specs.Sums.{constRow}
+use Rattle.lemmas.specs.Lemmas.{predicate}
+use Rattle.lemmas.proofs.LemmaLaws.{or-true, false-true}
+use Rattle.lemmas.proofs.Sound.{fails}
+use Rattle.formula.specs.Formula.{Literal, B, NotB}
+use Rattle.abstraction.specs.Abstraction.{literalIf, literalsIn, sameLiteral, among, allAmong}
+use Rattle.verdict.specs.Verdicts.{opposite, contradicted}
+
+-- a literal of a predicate of the program, true at the state
+abbrev pub TrueAt : Program → List ℤ → Literal → Type 0
+TrueAt p s (B j) = (j < length (p .predicates)) × (holds (predicate p j) s ≡ true)
+TrueAt p s (NotB j) = (j < length (p .predicates)) × (holds (predicate p j) s ≡ false)
+
+-- ---- something holds of every literal of a list
+module _ (P : Literal → Type 0) where
+  pub each-append : (xs ys : List Literal) → Each P xs → Each P ys → Each P (xs ++ ys)
+  each-append [] ys h k = k
+  each-append (x ∷ xs) ys h k = (h .0, each-append xs ys (h .1) k)
+
+  each-split : (xs ys : List Literal) → Each P (xs ++ ys) → Each P xs × Each P ys
+  each-split [] ys h = (tt, h)
+  each-split (x ∷ xs) ys h = let (a, b) = each-split xs ys (h .1) in ((h .0, a), b)
+
+  same-literal : (l m : Literal) → sameLiteral l m ≡ true → P m → P l
+  same-literal (B i) (B j) e h = rw (eqb-true i j e) h
+  same-literal (B i) (NotB j) e h = false-true e
+  same-literal (NotB i) (B j) e h = false-true e
+  same-literal (NotB i) (NotB j) e h = rw (eqb-true i j e) h
+
+  among-each : (l : Literal) (ms : List Literal) → Each P ms → among l ms ≡ true → P l
+  unfolding among
+  among-each l [] h e = false-true e
+  among-each l (m ∷ ms) h e = ⊎-elim (λ q. same-literal l m q (h .0)) (among-each l ms (h .1)) (or-true (sameLiteral l m) (among l ms) e)
+
+  pub all-among-each : (ls ms : List Literal) → Each P ms → allAmong ls ms ≡ true → Each P ls
+  unfolding allAmong
+  all-among-each [] ms h e = tt
+  all-among-each (l ∷ ls) ms h e = let (a, b) = and-true (among l ms) (allAmong ls ms) e in (among-each l ms h a, all-among-each ls ms h b)
+
+  contradicted-each : (ls ms : List Literal) → Each P ms → Each (λ l. P (opposite l) → ⊥) ls → contradicted ls ms ≡ true → ⊥
+  unfolding contradicted
+  contradicted-each [] ms h k e = false-true e
+  contradicted-each (l ∷ ls) ms h k e =
+      ⊎-elim (λ q. k .0 (among-each (opposite l) ms h q)) (contradicted-each ls ms h (k .1)) (or-true (among (opposite l) ms) (contradicted ls ms) e)
+
+  -- ---- of every literal of a set
+  if-out : (b : Bool) (l : Literal) → Each P (literalIf b l) → b ≡ true → P l
+  if-out true l h e = h .0
+  if-out false l h e = false-true e
+
+  if-in : (b : Bool) (l : Literal) → (b ≡ true → P l) → Each P (literalIf b l)
+  if-in true l h = (h refl, tt)
+  if-in false l h = tt
+
+  -- of those of predicate k
+  abbrev Of : ℕ → ℕ → Type 0
+  Of set k = (has k set ≡ true → P (B k)) × (has (14 + k) set ≡ true → P (NotB k))
+
+  literals-out : (set n : ℕ) → Each P (literalsIn n set) → (k : ℕ) → k < n → Of set k
+  unfolding literalsIn
+  literals-out set zero h k l = absurd (not-suc-le-zero l)
+  literals-out set (suc n) h k l =
+      let bs = literalIf (has n set) (B n) in
+      let ns = literalIf (has (14 + n) set) (NotB n) in
+      let (first, last) = each-split (literalsIn n set) (bs ++ ns) h in
+      let (x, y) = each-split bs ns last in
+      elim (ℕ-discrete k n) [
+        | yes e ↦ rw e (if-out (has n set) (B n) x, if-out (has (14 + n) set) (NotB n) y)
+        | no e ↦ literals-out set n first k (omega arith)
+      ]
+
+  literals-in : (set n : ℕ) → ((k : ℕ) → k < n → Of set k) → Each P (literalsIn n set)
+  unfolding literalsIn
+  literals-in set zero h = tt
+  literals-in set (suc n) h =
+      let bs = literalIf (has n set) (B n) in
+      let ns = literalIf (has (14 + n) set) (NotB n) in
+      let (x, y) = h n (omega arith) in
+      each-append (literalsIn n set) (bs ++ ns) (literals-in set n (λ k l. h k (omega arith)))
+      (each-append bs ns (if-in (has n set) (B n) x) (if-in (has (14 + n) set) (NotB n) y))
+
+-- ---- the rows of a set's literals
+negated-holds : (r : Row) (s : List ℤ) → holds r s ≡ false → holds (negated r) s ≡ true
+negated-holds r s e = le-leZ (pos 0) (rowValue (negated r) s) (negation r s .1 (clashℤ (leZ-false (pos 0) (rowValue r s) e)))
+
+negated-fails : (r : Row) (s : List ℤ) → holds (negated r) s ≡ true → holds r s ≡ false
+negated-fails r s e = fails r s (negation r s .0 (leZ-true (pos 0) (rowValue (negated r) s) e))
+
+-- two tests, that the row holds and that it fails, are right where they are true
+abbrev pub Right : Row → List ℤ → Bool → Bool → Type 0
+Right r s b c = (b ≡ true → holds r s ≡ true) × (c ≡ true → holds r s ≡ false)
+
+module _ (set : ℕ) (s : List ℤ) where
+  -- the set's literals of predicate k are true of the row
+  abbrev Says : ℕ → Row → Type 0
+  Says k r = Right r s (has k set) (has (14 + k) set)
+
+  row-in : (b : Bool) (r : Row) (rest : List Row) → (b ≡ true → holds r s ≡ true) → allHold rest s ≡ true → allHold (rowIf b r ++ rest) s ≡ true
+  unfolding allHold
+  row-in true r rest h e = rw (h refl) e
+  row-in false r rest h e = e
+
+  row-out : (b : Bool) (r : Row) (rest : List Row) → allHold (rowIf b r ++ rest) s ≡ true → (b ≡ true → holds r s ≡ true) × (allHold rest s ≡ true)
+  unfolding allHold
+  row-out true r rest e = let (a, c) = and-true (holds r s) (allHold rest s) e in (λ q. a, c)
+  row-out false r rest e = (λ q. false-true q, e)
+
+  module _ (d : Row) where
+    rows-hold : (i : ℕ) (rs : List Row) → ((j k : ℕ) → j ≡ i + k → k < length rs → Says j (getD rs k d)) → allHold (literalRows i rs set) s ≡ true
+    unfolding literalRows allHold
+    rows-hold i [] h = refl
+    rows-hold i (r ∷ rs) h =
+        let rest = literalRows (suc i) rs set in
+        let (x, y) = h i 0 (omega arith) (omega arith) in
+        row-in (has i set) r (rowIf (has (14 + i) set) (negated r) ++ rest) x
+        (row-in (has (14 + i) set) (negated r) rest (λ e. negated-holds r s (y e)) (rows-hold (suc i) rs (λ j k q l. h j (suc k) (omega arith) (omega arith))))
+
+    rows-held : (i : ℕ) (rs : List Row) → allHold (literalRows i rs set) s ≡ true → (j k : ℕ) → j ≡ i + k → k < length rs → Says j (getD rs k d)
+    unfolding literalRows
+    rows-held i [] e j k q l = absurd (not-suc-le-zero l)
+    rows-held i (r ∷ rs) e j zero q l =
+        let rest = literalRows (suc i) rs set in
+        let (x, f) = row-out (has i set) r (rowIf (has (14 + i) set) (negated r) ++ rest) e in
+        let (y, g) = row-out (has (14 + i) set) (negated r) rest f in
+        let same : j ≡ i = omega arith in
+        rw same (x, λ z. negated-fails r s (y z))
+    rows-held i (r ∷ rs) e j (suc k) q l =
+        let rest = literalRows (suc i) rs set in
+        let f = row-out (has i set) r (rowIf (has (14 + i) set) (negated r) ++ rest) e .1 in
+        rows-held (suc i) rs (row-out (has (14 + i) set) (negated r) rest f .1) j k (omega arith) (le-of-suc-le-suc l)
+
+-- ---- a set at a state
+module _ (p : Program) (s : List ℤ) (l : Literals) where
+  -- its literals are true: it is met
+  pub met : length (p .predicates) ≤ 14 → Each (TrueAt p s) (literalsIn 14 (l .0)) → meets (p .predicates) l s ≡ true
+  met few h = rows-hold (l .0) s (constRow (pos 0)) 0 (p .predicates) (λ j k q b.
+      let (x, y) = literals-out (TrueAt p s) (l .0) 14 h k (omega arith) in
+      let same : j ≡ k = omega arith in
+      rw same (λ e. x e .1, λ e. y e .1))
+
+  -- a true literal contradicts it: it is not
+  pub not-met : (m : List Literal) → Each (TrueAt p s) m → contradicted (literalsIn 14 (l .0)) m ≡ true → meets (p .predicates) l s ≡ false
+  not-met m h e = go (meets (p .predicates) l s) refl
+    where
+      go : (b : Bool) → meets (p .predicates) l s ≡ b → meets (p .predicates) l s ≡ false
+      go false q = q
+      go true q =
+          let says = rows-held (l .0) s (constRow (pos 0)) 0 (p .predicates) q in
+          absurd (contradicted-each (TrueAt p s) (literalsIn 14 (l .0)) m h
+          (literals-in (λ l. TrueAt p s (opposite l) → ⊥) (l .0) 14 (λ k b. (
+            λ x t. false-true (sym (t .1) ∙ says k k (omega arith) (t .0) .0 x),
+            λ x t. false-true (sym (says k k (omega arith) (t .0) .1 x) ∙ t .1),
+          ))) e)

@@ -1,0 +1,88 @@
+-- What an applying lemma claims is true, so formula (3) gives literals that are true of the state afterwards.
+use mathlib.Core.Path.{_≡_, refl, sym, _∙_}
+use mathlib.Core.Bool.{Bool, true, false, cond, _&&_}
+use mathlib.Core.Logic.{⊎-elim}
+use mathlib.Core.List.{List, [], _∷_}
+use Prim.Native.Nat.{ℕ, zero, suc, _≤_, _<_}
+use native.Mathlib.Omega.{arith}
+use lib.Dec.{eqb}
+use lib.IntN.{ℤ}
+use lib.ListN.{length}
+use borrow.Author.Tests.{eqb-true}
+use Rattle.integers.proofs.Tests.{and-true}
+use Rattle.grammar.specs.Programs.{Program}
+use Rattle.grammar.specs.WellFormed.{Each, WellFormed}
+use Rattle.runs.specs.Runs.{Inside, assigned, actionOf}
+use Rattle.lemmas.specs.Lemmas.{Lemma, predicate, accepted}
+use Rattle.lemmas.specs.LemmaGrammar.{LemmaOk}
+use Rattle.lemmas.specs.Truth.{happens, Claim}
+use Rattle.lemmas.proofs.LemmaLaws.{or-true, false-true}
+use Rattle.lemmas.proofs.Sound.{accepted-true}
+use Rattle.formula.specs.Formula.{Literal, B, NotB, Monomial, False, And, Fact, Then, and, conjunct, conjuncts}
+use Rattle.abstraction.specs.Abstraction.{literalsIn, allAmong, lemmaApplies, applies, shown, successor}
+use Rattle.safety.proofs.Literals.{TrueAt, Right, each-append, all-among-each, met}
+
+-- a monomial is true at a state: it is not false, and its literals are true there
+abbrev pub Describes : Program → List ℤ → Monomial → Type 0
+Describes p t False = ⊥
+Describes p t (And m) = Each (TrueAt p t) m
+
+-- ---- formula (3) over a relation that shows only what is true
+module _ (p : Program) (t : List ℤ) where
+  describes-and : (f g : Monomial) → Describes p t f → Describes p t g → Describes p t (and f g)
+  describes-and False g h k = h
+  describes-and (And ms) False h k = k
+  describes-and (And ms) (And ns) h k = each-append (TrueAt p t) ms ns h k
+
+  describes-conjunct : (b c : Bool) (j : ℕ) → j < length (p .predicates) → Right (predicate p j) t b c → Describes p t (conjunct b c j)
+  describes-conjunct true true j l h = false-true (sym (h .1 refl) ∙ h .0 refl)
+  describes-conjunct true false j l h = ((l, h .0 refl), tt)
+  describes-conjunct false true j l h = ((l, h .1 refl), tt)
+  describes-conjunct false false j l h = tt
+
+  module _ (shows : Fact → Bool) (sound : (j : ℕ) → Right (predicate p j) t (shows (Then (B j))) (shows (Then (NotB j)))) where
+    describes-conjuncts : (n : ℕ) → n ≤ length (p .predicates) → Describes p t (conjuncts shows n)
+    unfolding conjuncts
+    describes-conjuncts zero h = tt
+    describes-conjuncts (suc n) h =
+        describes-and (conjuncts shows n) (conjunct (shows (Then (B n))) (shows (Then (NotB n))) n) (describes-conjuncts n (omega arith))
+        (describes-conjunct (shows (Then (B n))) (shows (Then (NotB n))) n h (sound n))
+
+  describes-unless : (b : Bool) (f : Monomial) → (b ≡ true → ⊥) → Describes p t f → Describes p t (cond b False f)
+  describes-unless true f h k = h refl
+  describes-unless false f h k = k
+
+-- ---- at a state in the ranges where the source may happen, and the literals are true
+module _ (p : Program) (ok : WellFormed p) (s : List ℤ) (inside : Inside p s) (source : ℕ) (may : happens p source s ≡ true) (exp : List Literal) (true-there : Each (TrueAt p s) exp) where
+  abbrev after : List ℤ
+  after = assigned (actionOf p source) s
+
+  lemma-claims : (l : Lemma) → LemmaOk p l → (goal index : ℕ) → lemmaApplies p source exp goal index l ≡ true → Claim p goal index after
+  lemma-claims l good goal index e =
+      let a = accepted p l in
+      let b = eqb (l .source) source in
+      let c = eqb (l .goal) goal in
+      let d = eqb (l .index) index in
+      let premises = literalsIn 14 (l .premises .0) in
+      let (e₁, all) = and-true (a && b && c && d) (allAmong premises exp) e in
+      let (e₂, index-is) = and-true (a && b && c) d e₁ in
+      let (e₃, goal-is) = and-true (a && b) c e₂ in
+      let (yes-accepted, source-is) = and-true a b e₃ in
+      let same = eqb-true (l .source) source source-is in
+      rw (same, eqb-true (l .goal) goal goal-is, eqb-true (l .index) index index-is) at
+      (accepted-true p ok l good yes-accepted s inside
+      (met p s (l .premises) (ok .predicates .few) (all-among-each (TrueAt p s) premises exp true-there all))
+      (rw same may))
+
+  -- what an applying lemma of the list claims
+  pub claims : (ls : List Lemma) → Each (LemmaOk p) ls → (goal index : ℕ) → applies p ls source exp goal index ≡ true → Claim p goal index after
+  unfolding applies
+  claims [] good goal index e = false-true e
+  claims (l ∷ ls) good goal index e =
+      ⊎-elim (lemma-claims l (good .0) goal index) (claims ls (good .1) goal index) (or-true (lemmaApplies p source exp goal index l) (applies p ls source exp goal index) e)
+
+  -- the successor is true of the state afterwards
+  pub successor-true : (ls : List Lemma) → Each (LemmaOk p) ls → Describes p after (successor p ls source exp)
+  successor-true ls good =
+      describes-unless p after (applies p ls source exp 0 0) (conjuncts (shown p ls source exp) (length (p .predicates))) (claims ls good 0 0)
+      (describes-conjuncts p after (shown p ls source exp) (λ j. (claims ls good 1 j, claims ls good 2 j)) (length (p .predicates)) (omega arith))
