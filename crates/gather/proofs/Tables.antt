@@ -48,7 +48,7 @@ module _ (n : ℕ) (ps ks : List ℕ) (i : ℕ) (t : List ℕ) (T : Table n (ent
   }
 
 -- ---- one entry more at the end of the tables
-entries-kept : (ps ks : List ℕ) (n p k m : ℕ) → m ≤ n → entries (set ps n p) (set ks n k) m ≡ entries ps ks m
+pub entries-kept : (ps ks : List ℕ) (n p k m : ℕ) → m ≤ n → entries (set ps n p) (set ks n k) m ≡ entries ps ks m
 unfolding entries
 entries-kept ps ks n p k zero h = refl
 entries-kept ps ks n p k (suc m) h =

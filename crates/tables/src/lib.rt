@@ -1,0 +1,72 @@
+// The accepted lemmas of a list, in tables.
+ghost use mathlib.Core.Path.{_≡_};
+ghost use Prim.Native.Nat.{_+_, _*_, _≤_};
+ghost use lib.IntN.{pos};
+ghost use lib.Signed.{ltZ};
+ghost use Rattle.words.specs.Words.{bits};
+ghost use Rattle.lemmas.specs.Sources.{theProgram, Held, oneIf};
+ghost use Rattle.gather.specs.Gathering.{placeOf};
+ghost use Rattle.tables.specs.Tabled.{theLemmas, Begun, Tabled};
+use programs::Image;
+use rows::Exact;
+
+// The premises and keys of the accepted lemmas, how many there are, and the lowest lemma whose sum leaves 64 bits (the number of lemmas if there is none).
+pub struct Tables {
+    pub premises: [u32; 512],
+    pub keys: [u32; 512],
+    pub count: usize,
+    pub off: usize,
+}
+
+// The key of the lemma that this LEMMA word begins.
+fn key_at(w: u32) -> u32
+    ensures { λ r. ⌜ r ≡ bits 27 20 w * 64 + placeOf (bits 19 16 w) (bits 7 0 w) ⌝ }
+{
+    gather::key_of(w / 1048576 % 256, w / 65536 % 16, w % 256)
+}
+
+// 1 below 0, else 0.
+fn one_if_below(z: i64) -> usize
+    ensures { λ r. ⌜ (r ≡ oneIf (ltZ z (pos 0))) × (r ≤ 1) ⌝ }
+{
+    if z < 0 { 1 } else { 0 }
+}
+
+// Each lemma weighed, in order: every one is written behind the accepted ones, and counted if it is accepted itself.
+pub fn tabulate(
+    words: &[u32],
+    image: Image,
+    lemmas: &[u32],
+    begins: [usize; 512],
+    count: usize,
+) -> Tables
+    requires { ⌜ Held (now words) image × Begun (theProgram (now words)) (now lemmas) begins count (theLemmas (theProgram (now words)) (now lemmas)) ⌝ }
+    ensures { λ r. ⌜ Tabled (theProgram (now (words .entry))) (theLemmas (theProgram (now (words .entry))) (now (lemmas .entry))) r ⌝ }
+{
+    let mut premises = [0u32; 512];
+    let mut keys = [0u32; 512];
+    let mut n: usize = 0;
+    let mut k: usize = 0;
+    while k < count {
+        let at = begins[k];
+        let largest = ask::weigh(words, image, lemmas, at);
+        let Exact::Value(z) = largest else {
+            return Tables {
+                premises,
+                keys,
+                count: 0,
+                off: k,
+            };
+        };
+        premises[n] = reader::word_at(lemmas, at + 1) % 268435456;
+        keys[n] = key_at(reader::word_at(lemmas, at));
+        n += one_if_below(z);
+        k += 1;
+    }
+    Tables {
+        premises,
+        keys,
+        count: n,
+        off: k,
+    }
+}
