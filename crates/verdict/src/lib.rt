@@ -4,10 +4,12 @@ ghost use mathlib.Core.List.{List, [], _++_, map, reverse};
 ghost use Prim.Native.Nat.{ℕ, _/_, _%_, _<_, _≤_};
 ghost use lib.ListN.{length, drop};
 ghost use Rattle.words.specs.Words.{word};
+ghost use Rattle.lemmas.specs.Sources.{theProgram, Held};
 ghost use Rattle.search.specs.Search.{Graph, Done, count};
 ghost use Rattle.records.specs.Records.{mostNodes, graphWords, graphList};
 ghost use Rattle.verdict.specs.Verdicts.{STEP, pathWords, pathList, stepsTo};
-ghost use Rattle.verdict.specs.Working.{originAt, backAt, Traced};
+ghost use Rattle.verdict.specs.Working.{originAt, backAt, Traced, endsTo, askedEnds};
+use programs::Image;
 
 // How many words the path has room in.
 pub const ROOM: usize = 512;
@@ -77,4 +79,36 @@ pub fn clear_path(path: &mut [u32])
     ensures { λ _. ⌜ now (path .exit) ≡ pathList [] (now (path .entry)) ⌝ }
 {
     records::clear(&mut *path, ROOM);
+}
+
+// The places of both ends of each variable that is set.
+fn ends_of(set: [bool; 8]) -> u64
+    ensures { λ r. ⌜ r ≡ endsTo set 8 ⌝ }
+{
+    let mut w: u64 = 0;
+    let mut v: usize = 0;
+    while v < 8 {
+        if set[v] {
+            w = gather::ask_ends(w, v as u32);
+        }
+        v += 1;
+    }
+    w
+}
+
+// For each action the places of the range ends that it has to be shown to keep to: both of each variable that it sets.
+pub fn asked_ends(words: &[u32], image: Image) -> [u64; 16]
+    requires { ⌜ Held (now words) image ⌝ }
+    ensures { λ r. ⌜ r ≡ askedEnds (theProgram (now (words .entry))) ⌝ }
+{
+    let mut asked = [0u64; 16];
+    let actions = image.actions;
+    let mut j: usize = 0;
+    while j < actions {
+        let source = lemmas::source_of(words, image, j);
+        let set = source.set;
+        asked[j] = ends_of(set);
+        j += 1;
+    }
+    asked
 }
