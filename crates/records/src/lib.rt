@@ -33,7 +33,7 @@ pub fn record_place(actions: usize, k: usize) -> usize
 }
 
 // Where the edge of node k and action j stands.
-fn edge_place(actions: usize, k: usize, j: usize) -> usize
+pub fn edge_place(actions: usize, k: usize, j: usize) -> usize
     requires { ⌜ (actions ≤ 16) × (k < mostNodes) × (j < actions) ⌝ }
     ensures { λ r. ⌜ (r ≡ edgePlace actions k j) × (r < graphWords) ⌝ }
 {

@@ -1,2 +1,5 @@
 pub mod Traces
 pub mod Asked
+pub mod Combinations
+pub mod Ends
+pub mod Judging

@@ -1,15 +1,19 @@
 // Findings, verdicts and paths of a graph.
 ghost use mathlib.Core.Path.{_≡_};
 ghost use mathlib.Core.List.{List, [], _++_, map, reverse};
-ghost use Prim.Native.Nat.{ℕ, _/_, _%_, _<_, _≤_};
-ghost use lib.ListN.{length, drop};
+ghost use Prim.Native.Nat.{ℕ, _/_, _%_, _^_, _<_, _≤_};
+ghost use lib.ListN.{length, drop, take};
 ghost use Rattle.words.specs.Words.{word};
+ghost use Rattle.grammar.specs.Programs.{Program};
+ghost use Rattle.lemmas.specs.Lemmas.{Lemma};
 ghost use Rattle.lemmas.specs.Sources.{theProgram, Held};
+ghost use Rattle.gather.specs.Gathering.{entries};
 ghost use Rattle.search.specs.Search.{Graph, Done, count};
 ghost use Rattle.records.specs.Records.{mostNodes, graphWords, graphList};
-ghost use Rattle.verdict.specs.Verdicts.{STEP, pathWords, pathList, stepsTo};
-ghost use Rattle.verdict.specs.Working.{originAt, backAt, Traced, endsTo, askedEnds};
+ghost use Rattle.verdict.specs.Verdicts.{findingsAt, findings, STEP, pathWords, pathList, stepsTo};
+ghost use Rattle.verdict.specs.Working.{originAt, backAt, Traced, endsTo, askedEnds, foundOf, firstFree, leadsAt, firstOff, Judged};
 use programs::Image;
+use words::Literals;
 
 // How many words the path has room in.
 pub const ROOM: usize = 512;
@@ -111,4 +115,121 @@ pub fn asked_ends(words: &[u32], image: Image) -> [u64; 16]
         j += 1;
     }
     asked
+}
+
+// What is found first.
+pub enum Found {
+    Nothing,
+    // Node and combination.
+    Forbid(usize, usize),
+    // Node, action, variable, and whether it is the high end.
+    RunOff(usize, usize, usize, bool),
+}
+
+// The first of n combinations that no literal of the set contradicts, or n.
+fn first_free(literals: [Literals; 8], n: usize, set: u32) -> usize
+    requires { ⌜ (n ≤ 8) × (set < 2 ^ 28) ⌝ }
+    ensures { λ r. ⌜ r ≡ firstFree set (take n literals) ⌝ }
+{
+    let mut i: usize = 0;
+    while i < n {
+        let c = literals[i];
+        if !sets::is_opposed(c.0, set) {
+            return i;
+        }
+        i += 1;
+    }
+    i
+}
+
+// Does the edge of node k and action j name a successor?
+fn leads(graph: &[u32], actions: usize, k: usize, j: usize) -> bool
+    requires { ⌜ (graphWords ≤ length (now graph)) × (actions ≤ 16) × (k < mostNodes) × (j < actions) ⌝ }
+    ensures { λ r. ⌜ r ≡ leadsAt (now (graph .entry)) actions k j ⌝ }
+{
+    let at = records::edge_place(actions, k, j);
+    graph[at] % 268435456 != 268435455
+}
+
+// The first end of a range that is asked for and not shown at node k, of the actions that have a successor there.
+fn first_off(asked: [u64; 16], shown: [u64; 16], actions: usize, graph: &[u32], k: usize) -> Found
+    requires { ⌜ (graphWords ≤ length (now graph)) × (actions ≤ 16) × (k < mostNodes) ⌝ }
+    ensures { λ r. ⌜ r ≡ firstOff (leadsAt (now (graph .entry)) actions k) asked shown k 0 actions ⌝ }
+{
+    let mut j: usize = 0;
+    while j < actions {
+        if leads(graph, actions, k, j) {
+            let place = gather::first_missing(asked[j], shown[j]);
+            if place < 64 {
+                let v = (place / 2 % 14) as usize;
+                return Found::RunOff(k, j, v, place % 2 == 1);
+            }
+        }
+        j += 1;
+    }
+    Found::Nothing
+}
+
+// What is found first at node k: the forbidden combinations, then the ends of ranges.
+fn found_at(
+    premises: &[u32],
+    keys: &[u32],
+    n: usize,
+    literals: [Literals; 8],
+    forbidden: usize,
+    asked: [u64; 16],
+    actions: usize,
+    graph: &[u32],
+    k: usize,
+) -> Found
+    requires { ⌜ (n ≤ length (now premises)) × (n ≤ length (now keys)) × (forbidden ≤ 8) × (actions ≤ 16) × (graphWords ≤ length (now graph)) × (k < mostNodes) ⌝ }
+    ensures { λ r. ⌜ ((p : Program) (ls : List Lemma) (g : Graph) → Judged p ls g (entries (now (premises .entry)) (now (keys .entry)) n) literals forbidden asked actions (now (graph .entry)) → k < count g → r ≡ foundOf (findingsAt p ls g k)) ⌝ }
+{
+    let set = records::word_at(graph, actions, k) % 268435456;
+    let b = first_free(literals, forbidden, set);
+    if b < forbidden {
+        return Found::Forbid(k, b);
+    }
+    let shown = gather::gather_all(premises, keys, n, set);
+    first_off(asked, shown, actions, graph, k)
+}
+
+// What is found first in a graph, of a program's forbidden combinations and the ends that its actions have to keep to.
+pub fn first_finding(
+    premises: &[u32],
+    keys: &[u32],
+    n: usize,
+    literals: [Literals; 8],
+    forbidden: usize,
+    asked: [u64; 16],
+    actions: usize,
+    graph: &[u32],
+    nodes: usize,
+) -> Found
+    requires { ⌜ (n ≤ length (now premises)) × (n ≤ length (now keys)) × (forbidden ≤ 8) × (actions ≤ 16) × (graphWords ≤ length (now graph)) × (nodes ≤ mostNodes) ⌝ }
+    ensures { λ r. ⌜ ((p : Program) (ls : List Lemma) (g : Graph) → Judged p ls g (entries (now (premises .entry)) (now (keys .entry)) n) literals forbidden asked actions (now (graph .entry)) → nodes ≡ count g → r ≡ foundOf (findings p ls g)) ⌝ }
+{
+    let mut k: usize = 0;
+    while k < nodes {
+        let found = found_at(
+            premises,
+            keys,
+            n,
+            literals,
+            forbidden,
+            asked,
+            actions,
+            graph,
+            k,
+        );
+        match found {
+            Found::Nothing => {
+                k += 1;
+            }
+            _ => {
+                return found;
+            }
+        }
+    }
+    Found::Nothing
 }

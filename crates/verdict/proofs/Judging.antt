@@ -1,0 +1,164 @@
+-- What is found at a node, and in a graph:
+--     node-forbids, node-off              the two answers at a node are the first of its findings
+--     nothing-yet, found-here, found-none the loop over the nodes
+--     named                               a whole graph's edges name its nodes
+use mathlib.Core.Path.{_≡_, refl, sym, ap, _∙_}
+use mathlib.Core.Bool.{Bool, true, false, cond, not}
+use mathlib.Core.Logic.{⊎-elim}
+use mathlib.Core.List.{List, [], _∷_, _++_}
+use Prim.Native.Nat.{ℕ, zero, suc, _+_, _-_, _*_, _%_, _^_, _<_, _≤_}
+use native.Mathlib.Omega.{arith}
+use native.Mathlib.Numerals.{add-one}
+use native.Mathlib.Nat.{mul-add-mod-self-right, mod-eq-of-lt}
+use lib.Dec.{eqb}
+use lib.ListN.{length, getD, take, drop, replicate, length-drop, length-replicate}
+use lib.Seq.{sets, sets-eq, take-at, getD-drop, drop-drop}
+use borrow.Author.Tests.{ne-eqb}
+use Rattle.words.specs.Words.{payload, noLiterals}
+use Rattle.words.specs.declared.Literals.{Literals}
+use Rattle.grammar.specs.Programs.{Action, Program}
+use Rattle.lemmas.specs.Lemmas.{Lemma}
+use Rattle.programs.proofs.Places.{noneAction}
+use Rattle.runs.specs.Runs.{actionOf}
+use Rattle.gather.specs.Gathering.{Entry, Table, gathered, firstMissing}
+use Rattle.search.specs.Search.{Answer, To, None, Graph, count, nodeWord, edge}
+use Rattle.search.proofs.Sound.{Leads}
+use Rattle.search.proofs.Theorem.{Whole}
+use Rattle.records.specs.Records.{edgeWord, mostNodes, graphWords, recordPlace, edgePlace}
+use Rattle.records.proofs.Listed.{record-at, edge-at}
+use Rattle.abstraction.specs.Abstraction.{literalsIn, applies}
+use Rattle.abstraction.specs.Faithful.{literalsAt}
+use Rattle.verdict.specs.Verdicts.{Finding, Forbid, RunOff, ends, hasNext, runsOff, forbids, findingsAt, findingsFrom, findings}
+use Rattle.verdict.specs.declared.Found.{Found}
+use Rattle.verdict.specs.declared.Found.the-variants.{Nothing}
+use Rattle.verdict.specs.declared.Found.the-variants.{Forbid as MayForbid}
+use Rattle.verdict.specs.Working.{endsOf, foundOf, firstFree, leadsAt, endAt, firstOff, Names, Judged}
+use Rattle.verdict.proofs.Asked.{asked-at}
+use Rattle.verdict.proofs.Combinations.{forbids-here, forbids-none}
+use Rattle.verdict.proofs.Ends.{ends-found}
+
+-- ---- lists
+combinations-all : (cs : List Literals) → length cs ≤ 8 → take (length cs) (sets (replicate 8 noLiterals) 0 cs) ≡ cs
+combinations-all cs h =
+    let room : 0 + length cs ≤ length {A = Literals} (replicate 8 noLiterals) = simp length-replicate (omega arith) in
+    ap (take (length cs)) (sets-eq cs (replicate 8 noLiterals) 0 room) ∙ take-at cs (drop (0 + length cs) (replicate 8 noLiterals)) (length cs) refl
+
+-- action j, where the actions from j on begin with it
+from-j : (xs : List Action) (j : ℕ) (x : Action) (rest : List Action) → drop j xs ≡ x ∷ rest → (j < length xs) × (getD xs j noneAction ≡ x) × (drop (suc j) xs ≡ rest)
+from-j xs j x rest e =
+    let none : j + 0 ≡ j = omega arith in
+    let one : j + 1 ≡ suc j = omega arith in (
+      omega (arith, ap length e, length-drop j xs),
+      ap (λ (y : ℕ). getD xs y noneAction) (sym none) ∙ sym (getD-drop j xs 0 noneAction) ∙ ap (λ (y : List Action). getD y 0 noneAction) e,
+      ap (λ (y : ℕ). drop y xs) (sym one) ∙ sym (drop-drop 1 j xs) ∙ ap (drop 1) e,
+    )
+
+-- ---- the words of a graph list
+leads-as : (e : Answer) → Names e → not (eqb (payload (edgeWord e)) (2 ^ 28 - 1)) ≡ hasNext e
+leads-as (To m) h =
+    let e : payload (edgeWord (To m)) ≡ m = mul-add-mod-self-right 12 (2 ^ 28) m ∙ mod-eq-of-lt (omega arith) in
+    rw (e, ne-eqb m (2 ^ 28 - 1) (λ z. omega arith)) refl
+leads-as None h = refl
+
+module _ {p : Program} {ls : List Lemma} {g : Graph} {es : List Entry} {literals : List Literals} {forbidden : ℕ} {asked : List ℕ} {actions : ℕ} {l : List ℕ}
+    (J : Judged p ls g es literals forbidden asked actions l) (k : ℕ) (hk : k < count g) where
+  node-at : getD l (recordPlace actions k) 0 ≡ nodeWord g k
+  node-at =
+      let e : recordPlace actions k + 0 ≡ recordPlace actions k = omega arith in
+      ap (λ (y : ℕ). getD l y 0) (sym e) ∙ rw (J .listed .1) (record-at actions g (count g) (replicate (graphWords - recordPlace actions (count g)) 0 ++ drop graphWords (J .listed .0)) k 0 hk (omega arith))
+
+  leads-is : (j : ℕ) → j < length (p .actions) → leadsAt l actions k j ≡ hasNext (edge (length (p .actions)) g k j)
+  leads-is j hj =
+      let lt : j < actions = omega (arith, J .action-count) in
+      let e : getD l (edgePlace actions k j) 0 ≡ edgeWord (edge actions g k j) =
+      rw (J .listed .1) (edge-at actions g (count g) (replicate (graphWords - recordPlace actions (count g)) 0 ++ drop graphWords (J .listed .0)) k j hk lt) in
+      rw e (leads-as (edge actions g k j) (J .names k j hk lt)) ∙ ap (λ (a : ℕ). hasNext (edge a g k j)) (J .action-count)
+
+  -- ---- the actions from j on
+  module _ (shown : List ℕ) (T : Table (payload (nodeWord g k)) es shown) where
+    runs-from : (xs : List Action) (j : ℕ) → drop j (p .actions) ≡ xs → firstOff (leadsAt l actions k) asked shown k j (length xs) ≡ foundOf (runsOff p ls g k j xs)
+    unfolding firstOff runsOff
+    runs-from [] j e = refl
+    runs-from (x ∷ xs) j e =
+        let (lt, is, rest) = from-j (p .actions) j x xs e in
+        let few = J .good .actions .few in
+        let set = payload (nodeWord g k) in
+        let asks : getD asked j 0 ≡ endsOf x = ap (λ (y : List ℕ). getD y j 0) (J .ends) ∙ asked-at p j lt few ∙ ap endsOf is in
+        rw (leads-is j lt, asks, T .same j (omega arith), runs-from xs (suc j) rest)
+        (go (hasNext (edge (length (p .actions)) g k j)) (ends-found p ls es (J .good) (J .applying) set k j x is (runsOff p ls g k (suc j) xs)))
+      where
+        go : (b : Bool)
+            → foundOf (ends (applies p ls j (literalsAt g k)) k j (x .sets) ++ runsOff p ls g k (suc j) xs) ≡ endAt k j (firstMissing (endsOf x) (gathered j (payload (nodeWord g k)) es)) (foundOf (runsOff p ls g k (suc j) xs))
+            → cond b (endAt k j (firstMissing (endsOf x) (gathered j (payload (nodeWord g k)) es)) (foundOf (runsOff p ls g k (suc j) xs))) (foundOf (runsOff p ls g k (suc j) xs))
+            ≡ foundOf (cond b (ends (applies p ls j (literalsAt g k)) k j (x .sets)) [] ++ runsOff p ls g k (suc j) xs)
+        go true h = sym h
+        go false h = refl
+
+  -- ---- the two answers at a node, whose word is w
+  module _ (w b : ℕ) (iw : w ≡ getD l (recordPlace actions k) 0) (ib : b ≡ firstFree (payload w) (take forbidden literals)) where
+    set-is : payload w ≡ payload (nodeWord g k)
+    set-is = ap payload (iw ∙ node-at)
+
+    free-is : b ≡ firstFree (payload (nodeWord g k)) (p .forbidden)
+    free-is =
+        let all : take forbidden literals ≡ p .forbidden =
+        ap (λ (n : ℕ). take n literals) (J .forbidden-count) ∙ ap (take (length (p .forbidden))) (J .combinations) ∙ combinations-all (p .forbidden) (J .good .forbidden .few) in
+        ib ∙ rw (set-is, all) refl
+
+    small : payload (nodeWord g k) < 2 ^ 28
+    small = omega arith
+
+    pub node-forbids : b < forbidden → MayForbid k b ≡ foundOf (findingsAt p ls g k)
+    node-forbids h =
+        ap (MayForbid k) free-is
+        ∙ forbids-here (length (p .predicates)) (payload (nodeWord g k)) small k (runsOff p ls g k 0 (p .actions)) (p .forbidden) (J .good .forbidden .each) (omega (arith, free-is, J .forbidden-count))
+
+    pub node-off : forbidden ≤ b → (shown : List ℕ) → Table (payload w) es shown → (r : Found) → r ≡ firstOff (leadsAt l actions k) asked shown k 0 actions → r ≡ foundOf (findingsAt p ls g k)
+    node-off h shown T r ir =
+        ir ∙ ap (λ (n : ℕ). firstOff (leadsAt l actions k) asked shown k 0 n) (J .action-count) ∙ runs-from shown (rw set-is at T) (p .actions) 0 refl
+        ∙ forbids-none (length (p .predicates)) (payload (nodeWord g k)) small k (runsOff p ls g k 0 (p .actions)) (p .forbidden) (J .good .forbidden .each) (omega (arith, free-is, J .forbidden-count))
+
+-- ---- the loop over the nodes
+not-nothing : (f : Finding) → foundOf (f ∷ []) ≡ Nothing → ⊥
+not-nothing (Forbid k b) e = let z : _≡_ {A = ℕ} 0 1 = cc in omega arith
+not-nothing (RunOff k j v high) e = let z : _≡_ {A = ℕ} 0 1 = cc in omega arith
+
+append-nothing : (xs ys : List Finding) → foundOf xs ≡ Nothing → foundOf (xs ++ ys) ≡ foundOf ys
+append-nothing [] ys e = refl
+append-nothing (x ∷ xs) ys e = absurd (not-nothing x e)
+
+append-found : (xs ys : List Finding) → (foundOf xs ≡ Nothing → ⊥) → foundOf (xs ++ ys) ≡ foundOf xs
+append-found [] ys n = absurd (n refl)
+append-found (x ∷ xs) ys n = refl
+
+-- nothing is found before node k
+abbrev pub Nothing-before : Program → List Lemma → Graph → ℕ → ℕ → Type 0
+Nothing-before p ls g nodes k = foundOf (findingsFrom p ls g k (nodes - k)) ≡ foundOf (findings p ls g)
+
+module _ (p : Program) (ls : List Lemma) (g : Graph) (nodes : ℕ) where
+  pub before-first : nodes ≡ count g → Nothing-before p ls g nodes 0
+  before-first e = let z : nodes - 0 ≡ count g = omega arith in rw z refl
+
+  module _ (k : ℕ) (same : Nothing-before p ls g nodes k) where
+    module _ (h : k < nodes) (r : Found) (is : r ≡ foundOf (findingsAt p ls g k)) where
+      from-k : findingsFrom p ls g k (nodes - k) ≡ findingsAt p ls g k ++ findingsFrom p ls g (k + 1) (nodes - (k + 1))
+      unfolding findingsFrom
+      from-k = let e : nodes - k ≡ suc (nodes - (k + 1)) = omega arith in rw (e, add-one k) refl
+
+      pub nothing-yet : r ≡ Nothing → Nothing-before p ls g nodes (k + 1)
+      nothing-yet e = sym (ap foundOf from-k ∙ append-nothing (findingsAt p ls g k) _ (sym is ∙ e)) ∙ same
+
+      pub found-here : (r ≡ Nothing → ⊥) → r ≡ foundOf (findings p ls g)
+      found-here n = is ∙ sym (ap foundOf from-k ∙ append-found (findingsAt p ls g k) _ (λ e. n (is ∙ e))) ∙ same
+
+    pub found-none : nodes ≤ k → Nothing ≡ foundOf (findings p ls g)
+    unfolding findingsFrom
+    found-none h = let e : nodes - k ≡ 0 = omega arith in rw e at same
+
+-- ---- a whole graph's edges
+pub named : {start : Answer} {next : ℕ → ℕ → Answer} {a : ℕ} {g : Graph} → Whole start next a mostNodes g → (k j : ℕ) → k < count g → j < a → Names (edge a g k j)
+named {start} {next} {a} {g} v k j hk hj = go (edge a g k j) (v .leads k j hk hj)
+  where
+    go : (e : Answer) → Leads next (g .words) k j e → Names e
+    go (To m) c = omega (arith, c .0, v .within)
+    go None c = tt

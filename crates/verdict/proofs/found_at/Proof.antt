@@ -1,0 +1,39 @@
+use native.Mathlib.Omega.{arith}
+use borrow.Author.Needs.{needs}
+use Rattle.verdict.proofs.Judging.{node-forbids, node-off}
+use Rattle.verdict.proofs.found_at.Statement.{statement}
+use Rattle.verdict.proofs.found_at.Tie as tie
+
+word-at-requires : tie.Need-word-at-requires
+word-at-requires c κs = search needs
+
+first-free-requires : tie.Need-first-free-requires
+first-free-requires c κs = search needs
+
+returns : tie.Need-returns
+returns c =
+    λ p ls g J h. let w = c .before .before .word-at in
+    node-forbids J (c .before .before .before .before .before .before .args .k) h (w .result) (c .before .first-free .result) (w .ensures) (c .before .first-free .ensures) (c .if1 .taken)
+
+gather-all-requires : tie.Need-gather-all-requires
+gather-all-requires c κs = search needs
+
+first-off-requires : tie.Need-first-off-requires
+first-off-requires c κs = search needs
+
+returns-2 : tie.Need-returns-2
+returns-2 c =
+    λ p ls g J h. let q = c .before .before .before in
+    let w = q .before .word-at in
+    node-off J (q .before .before .before .before .before .args .k) h (w .result) (q .first-free .result) (w .ensures) (q .first-free .ensures) (c .before .before .if1 .left) (c .before .gather-all .result) (c .before .gather-all .ensures) (c .first-off .result) (c .first-off .ensures)
+
+pub found-at-spec : {M : Type 1} → statement M
+found-at-spec =
+    tie.close
+    (tie.spec
+    word-at-requires
+    first-free-requires
+    returns
+    gather-all-requires
+    first-off-requires
+    returns-2)
