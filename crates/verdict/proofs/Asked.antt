@@ -2,7 +2,7 @@
 --     ends-more, ends-same   one variable more, marked or not
 --     Asking                 the loop that makes the table of a program
 --     asked-at               its word for an action
-use mathlib.Core.Path.{_≡_, refl, sym, ap, _∙_}
+use mathlib.Core.Path.{_≡_, refl, sym, _∙_}
 use mathlib.Core.Bool.{Bool, true, false}
 use mathlib.Core.List.{List, [], map}
 use Prim.Native.Nat.{ℕ, _+_, _≤_, _<_}

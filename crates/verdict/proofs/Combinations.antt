@@ -2,7 +2,7 @@
 --     contradicted-is                  the test on sets says whether some literal contradicts a combination
 --     free-on, free-here, free-end     the loop that looks for one that none contradicts
 --     forbids-here, forbids-none       the first finding is it
-use mathlib.Core.Path.{_≡_, refl, sym, ap, _∙_}
+use mathlib.Core.Path.{_≡_, refl, sym, _∙_}
 use mathlib.Core.Bool.{Bool, true, false, cond, _||_}
 use mathlib.Core.Logic.{_⊎_, inl, inr, ⊎-elim, _↔_}
 use mathlib.Core.List.{List, [], _∷_, _++_}
@@ -10,7 +10,7 @@ use Prim.Native.Nat.{ℕ, zero, suc, _+_, _^_, _<_, _≤_}
 use native.Mathlib.Omega.{arith}
 use native.Mathlib.Numerals.{add-one}
 use native.Mathlib.Nat.{eq-or-lt-of-le, le-of-suc-le-suc}
-use lib.Dec.{eqb, ltb}
+use lib.Dec.{ltb}
 use lib.ListN.{length, getD, drop, drop-of-length-le}
 use lib.Seq.{drop-cons}
 use borrow.Author.Tests.{eqb-true, eq-eqb, lt-ltb, le-ltb}
@@ -18,18 +18,15 @@ use Rattle.words.specs.Words.{noLiterals}
 use Rattle.words.specs.declared.Literals.{Literals}
 use Rattle.grammar.specs.WellFormed.{Each, LiteralsOk}
 use Rattle.runs.specs.Runs.{has}
-use Rattle.sets.specs.Sets.{Member, Contradicts, clashes}
+use Rattle.sets.specs.Sets.{Member, clashes}
 use Rattle.sets.proofs.Laws.{clashes-is}
+use Rattle.gather.proofs.Shown.{never}
 use Rattle.search.proofs.Count.{lt-or-le}
 use Rattle.formula.specs.Formula.{Literal, B, NotB}
 use Rattle.abstraction.specs.Abstraction.{literalIf, literalsIn, sameLiteral, among}
 use Rattle.verdict.specs.Verdicts.{Finding, Forbid, opposite, contradicted, forbids}
-use Rattle.verdict.specs.declared.Found.{Found}
 use Rattle.verdict.specs.declared.Found.the-variants.{Forbid as MayForbid}
 use Rattle.verdict.specs.Working.{foundOf, firstFree}
-
-pub never : {P : Type 0} → false ≡ true → P
-never h = let z : _≡_ {A = ℕ} 0 1 = cc in absurd (omega arith)
 
 pub or-cases : (a b : Bool) → (a || b) ≡ true → (a ≡ true) ⊎ (b ≡ true)
 or-cases true b h = inl refl
@@ -119,7 +116,7 @@ among-false j set =
       λ w. back (j, w .0, inr (w .1, eq-eqb j j refl)),
     )
 
-pub contradicted-is : (c set : ℕ) → c < 2 ^ 28 → set < 2 ^ 28 → contradicted (literalsIn 14 c) (literalsIn 14 set) ≡ clashes c set
+contradicted-is : (c set : ℕ) → c < 2 ^ 28 → set < 2 ^ 28 → contradicted (literalsIn 14 c) (literalsIn 14 set) ≡ clashes c set
 unfolding Passes
 contradicted-is c set hc hs =
     let m = literalsIn 14 set in

@@ -5,7 +5,7 @@ use mathlib.Core.Path.{_≡_, refl, sym, _∙_, subst}
 use mathlib.Core.Bool.{Bool, true, false, cond}
 use mathlib.Core.Logic.{_⊎_, inl, inr, ⊎-elim, _↔_}
 use mathlib.Core.List.{List, [], _∷_, _++_}
-use Prim.Native.Nat.{ℕ, zero, suc, _+_, _-_, _*_, _/_, _%_, _<_, _≤_}
+use Prim.Native.Nat.{ℕ, zero, suc, _+_, _-_, _/_, _%_, _<_, _≤_}
 use native.Mathlib.Omega.{arith}
 use native.Mathlib.Numerals.{add-one}
 use native.Mathlib.Nat.{eq-or-lt-of-le, le-of-suc-le-suc}
@@ -23,15 +23,14 @@ use Rattle.lemmas.proofs.HeadLaws.{goal-by}
 use Rattle.sets.specs.Sets.{Member}
 use Rattle.sets.proofs.Bits.{bit-zero}
 use Rattle.gather.specs.Gathering.{Goal, low-end, high-end, Entry, placeOf, gathered, askEnds, firstMissing}
-use Rattle.gather.proofs.Shown.{ask-is, missing-is}
+use Rattle.gather.proofs.Shown.{never, ask-is, missing-is}
 use Rattle.search.proofs.Count.{lt-or-le, eq-or-ne}
 use Rattle.abstraction.specs.Abstraction.{literalsIn, applies}
 use Rattle.verdict.specs.Verdicts.{Finding, ends}
-use Rattle.verdict.specs.declared.Found.{Found}
 use Rattle.verdict.specs.declared.Found.the-variants.{Nothing}
 use Rattle.verdict.specs.declared.Found.the-variants.{RunOff as MayRunOff}
 use Rattle.verdict.specs.Working.{endsTo, endsOf, foundOf, endAt, firstOff}
-use Rattle.verdict.proofs.Combinations.{never, or-cases, or-right}
+use Rattle.verdict.proofs.Combinations.{or-cases, or-right}
 
 -- ---- the loop over the actions
 module _ (leads : ℕ → Bool) (asked shown : List ℕ) (k n j : ℕ) (same : firstOff leads asked shown k j (n - j) ≡ firstOff leads asked shown k 0 n) where

@@ -1,12 +1,11 @@
 -- What is found at a node, and in a graph:
 --     node-forbids, node-off              the two answers at a node are the first of its findings
 --     nothing-yet, found-here, found-none the loop over the nodes
---     named                               a whole graph's edges name its nodes
+--     judged                              a program that has been read, and its whole graph, are judged
 use mathlib.Core.Path.{_≡_, refl, sym, ap, _∙_}
 use mathlib.Core.Bool.{Bool, true, false, cond, not}
-use mathlib.Core.Logic.{⊎-elim}
 use mathlib.Core.List.{List, [], _∷_, _++_}
-use Prim.Native.Nat.{ℕ, zero, suc, _+_, _-_, _*_, _%_, _^_, _<_, _≤_}
+use Prim.Native.Nat.{ℕ, suc, _+_, _-_, _^_, _<_, _≤_}
 use native.Mathlib.Omega.{arith}
 use native.Mathlib.Numerals.{add-one}
 use native.Mathlib.Nat.{mul-add-mod-self-right, mod-eq-of-lt}
@@ -17,22 +16,24 @@ use borrow.Author.Tests.{ne-eqb}
 use Rattle.words.specs.Words.{payload, noLiterals}
 use Rattle.words.specs.declared.Literals.{Literals}
 use Rattle.grammar.specs.Programs.{Action, Program}
-use Rattle.lemmas.specs.Lemmas.{Lemma}
+use Rattle.programs.specs.declared.Image.{Image}
 use Rattle.programs.proofs.Places.{noneAction}
-use Rattle.runs.specs.Runs.{actionOf}
-use Rattle.gather.specs.Gathering.{Entry, Table, gathered, firstMissing}
-use Rattle.search.specs.Search.{Answer, To, None, Graph, count, nodeWord, edge}
+use Rattle.runs.specs.Runs.{has}
+use Rattle.lemmas.specs.Lemmas.{Lemma}
+use Rattle.lemmas.specs.Sources.{theProgram, Held}
+use Rattle.gather.specs.Gathering.{Goal, Entry, Table, placeOf, gathered, firstMissing}
+use Rattle.search.specs.Search.{Answer, To, None, Graph, Done, count, nodeWord, edge}
 use Rattle.search.proofs.Sound.{Leads}
 use Rattle.search.proofs.Theorem.{Whole}
-use Rattle.records.specs.Records.{edgeWord, mostNodes, graphWords, recordPlace, edgePlace}
+use Rattle.records.specs.Records.{edgeWord, mostNodes, graphWords, recordPlace, edgePlace, graphList}
 use Rattle.records.proofs.Listed.{record-at, edge-at}
 use Rattle.abstraction.specs.Abstraction.{literalsIn, applies}
 use Rattle.abstraction.specs.Faithful.{literalsAt}
-use Rattle.verdict.specs.Verdicts.{Finding, Forbid, RunOff, ends, hasNext, runsOff, forbids, findingsAt, findingsFrom, findings}
+use Rattle.verdict.specs.Verdicts.{Finding, Forbid, RunOff, ends, hasNext, runsOff, findingsAt, findingsFrom, findings}
 use Rattle.verdict.specs.declared.Found.{Found}
 use Rattle.verdict.specs.declared.Found.the-variants.{Nothing}
 use Rattle.verdict.specs.declared.Found.the-variants.{Forbid as MayForbid}
-use Rattle.verdict.specs.Working.{endsOf, foundOf, firstFree, leadsAt, endAt, firstOff, Names, Judged}
+use Rattle.verdict.specs.Working.{endsOf, askedEnds, foundOf, firstFree, leadsAt, endAt, firstOff, Names, Judged}
 use Rattle.verdict.proofs.Asked.{asked-at}
 use Rattle.verdict.proofs.Combinations.{forbids-here, forbids-none}
 use Rattle.verdict.proofs.Ends.{ends-found}
@@ -155,10 +156,27 @@ module _ (p : Program) (ls : List Lemma) (g : Graph) (nodes : ℕ) where
     unfolding findingsFrom
     found-none h = let e : nodes - k ≡ 0 = omega arith in rw e at same
 
--- ---- a whole graph's edges
-pub named : {start : Answer} {next : ℕ → ℕ → Answer} {a : ℕ} {g : Graph} → Whole start next a mostNodes g → (k j : ℕ) → k < count g → j < a → Names (edge a g k j)
-named {start} {next} {a} {g} v k j hk hj = go (edge a g k j) (v .leads k j hk hj)
-  where
-    go : (e : Answer) → Leads next (g .words) k j e → Names e
-    go (To m) c = omega (arith, c .0, v .within)
-    go None c = tt
+-- ---- a whole graph of a program that has been read
+module _ {start : Answer} {next : ℕ → ℕ → Answer} {a : ℕ} {g : Graph} (v : Whole start next a mostNodes g) where
+  named : (k j : ℕ) → k < count g → j < a → Names (edge a g k j)
+  named k j hk hj = go (edge a g k j) (v .leads k j hk hj)
+    where
+      go : (e : Answer) → Leads next (g .words) k j e → Names e
+      go (To m) c = omega (arith, c .0, v .within)
+      go None c = tt
+
+pub judged : {ws : List ℕ} {image : Image} → Held ws image → {ls : List Lemma} {es : List Entry}
+    → ((source set goal index : ℕ) → Goal goal index → has (placeOf goal index) (gathered source set es) ≡ applies (theProgram ws) ls source (literalsIn 14 set) goal index)
+    → {start : Answer} {next : ℕ → ℕ → Answer} {g : Graph} → Whole start next (image .actions) mostNodes g
+    → {l : List ℕ} (l₀ : List ℕ) → l ≡ graphList (image .actions) (Done g) l₀
+    → Judged (theProgram ws) ls g es (image .literals) (image .forbidden) (askedEnds (theProgram ws)) (image .actions) l
+judged h applying v l₀ e = record {
+  good = h .accepted .good;
+  combinations = ap (λ (y : Image). y .literals) (h .same);
+  forbidden-count = ap (λ (y : Image). y .forbidden) (h .same);
+  ends = refl;
+  action-count = ap (λ (y : Image). y .actions) (h .same);
+  listed = (l₀, e);
+  names = named v;
+  applying = applying;
+}

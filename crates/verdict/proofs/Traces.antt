@@ -3,21 +3,20 @@
 --     path-written        the words written are the path of the graph whose records the list has
 --     traced              a whole graph's origins name earlier nodes
 use mathlib.Core.Path.{_≡_, refl, sym, ap, _∙_}
-use mathlib.Core.Bool.{Bool, true, false}
 use mathlib.Core.List.{List, [], _∷_, _++_, map, reverse, reverse-cons, map-append, append-assoc}
 use Prim.Native.Nat.{ℕ, zero, suc, _+_, _-_, _*_, _/_, _%_, _<_, _≤_}
 use native.Mathlib.Omega.{arith}
 use native.Mathlib.Nat.{mul-add-mod-self-right, mod-eq-of-lt}
 use borrow.Author.Tests.{eq-eqb, ne-eqb}
 use lib.Dec.{eqb}
-use lib.ListN.{length, take, drop, set, getD, replicate, length-map, length-reverse, length-set, take-append-drop, drop-of-length-le}
+use lib.ListN.{length, take, drop, set, replicate, length-map, length-reverse, length-set, take-append-drop, drop-of-length-le}
 use lib.Seq.{set-split, drop-at, take-at, take-all, length-take-le}
 use Rattle.words.specs.Words.{word}
 use Rattle.search.specs.Search.{Answer, Origin, Root, From, Graph, Done, count, origin}
 use Rattle.search.specs.Reach.{hop, back}
 use Rattle.search.proofs.Sound.{Comes}
 use Rattle.search.proofs.Theorem.{Whole}
-use Rattle.records.specs.Records.{originWord, mostNodes, graphWords, stride, recordPlace, graphList}
+use Rattle.records.specs.Records.{originWord, mostNodes, graphWords, recordPlace, graphList}
 use Rattle.records.proofs.Places.{zeros-left}
 use Rattle.records.proofs.Listed.{record-at}
 use Rattle.verdict.specs.Verdicts.{STEP, pathWords, pathList, stepsTo}

@@ -107,12 +107,12 @@ pub fn asked_ends(words: &[u32], image: Image) -> [u64; 16]
 {
     let mut asked = [0u64; 16];
     let actions = image.actions;
-    let mut j: usize = 0;
-    while j < actions {
-        let source = lemmas::source_of(words, image, j);
+    let mut action: usize = 0;
+    while action < actions {
+        let source = lemmas::source_of(words, image, action);
         let set = source.set;
-        asked[j] = ends_of(set);
-        j += 1;
+        asked[action] = ends_of(set);
+        action += 1;
     }
     asked
 }

@@ -1,5 +1,5 @@
 -- What is in the table, with what is still to come, is the whole: `Asking`. The measure is what is left of the actions.
-use mathlib.Core.Path.{_≡_, ap, _∙_}
+use mathlib.Core.Path.{ap, _∙_}
 use Prim.Native.Nat.{_-_}
 use native.Mathlib.Omega.{arith}
 use borrow.Author.Needs.{needs}
@@ -12,10 +12,10 @@ use Rattle.verdict.proofs.asked_ends.Statement.{statement}
 use Rattle.verdict.proofs.asked_ends.Tie as tie
 
 abbrev Inv-loop : tie.InvT-loop
-Inv-loop words image asked₀ actions j₀ asked j = Asking (theProgram words) asked j
+Inv-loop words image asked₀ actions action₀ asked action = Asking (theProgram words) asked action
 
 abbrev μ-loop : tie.MeasureT-loop
-μ-loop words image asked₀ actions j₀ asked j = actions - j
+μ-loop words image asked₀ actions action₀ asked action = actions - action
 
 loop-holds : tie.Need-loop-holds Inv-loop μ-loop
 loop-holds c = asking-none _
@@ -32,8 +32,8 @@ mul-asked c = let t = c .before .before .before .before .before .before in omega
 array-write-asked : tie.Need-array-write-asked Inv-loop μ-loop
 array-write-asked c = let t = c .before .before .before .before .before .before in omega (arith, counts (t .args .words .now) (t .pre) 0)
 
-add-j : tie.Need-add-j Inv-loop μ-loop
-add-j c = search needs
+add-action : tie.Need-add-action Inv-loop μ-loop
+add-action c = search needs
 
 loop-less : tie.Need-loop-less Inv-loop μ-loop
 loop-less c = search needs
@@ -43,7 +43,7 @@ loop-again c =
     let l = c .before .before .before .before in
     let t = l .before .before in
     let ws = t .args .words .now in
-    asking-next (theProgram ws) (l .loop .asked) (l .loop .j) (l .loop .inv) (omega (arith, counts ws (t .pre) 0)) (c .ends-of .result)
+    asking-next (theProgram ws) (l .loop .asked) (l .loop .action) (l .loop .inv) (omega (arith, counts ws (t .pre) 0)) (c .ends-of .result)
     (c .ends-of .ensures ∙ ap (λ (s : Source). endsTo (s .set) 8) (c .before .before .source-of .ensures))
 
 returns : tie.Need-returns Inv-loop μ-loop
@@ -51,7 +51,7 @@ returns c =
     let l = c .before in
     let t = l .before .before in
     let ws = t .args .words .now in
-    asking-done (theProgram ws) (l .loop .asked) (l .loop .j) (l .loop .inv) (omega (arith, counts ws (t .pre) 0))
+    asking-done (theProgram ws) (l .loop .asked) (l .loop .action) (l .loop .inv) (omega (arith, counts ws (t .pre) 0))
 
 pub asked-ends-spec : {M : Type 1} → statement M
 asked-ends-spec =
@@ -64,7 +64,7 @@ asked-ends-spec =
     ends-of-requires
     mul-asked
     array-write-asked
-    add-j
+    add-action
     loop-less
     loop-again
     returns)

@@ -1,5 +1,5 @@
 -- Nothing is found before node k. The measure is what is left of the nodes.
-use mathlib.Core.Path.{_≡_, sym, _∙_}
+use mathlib.Core.Path.{_≡_}
 use mathlib.Core.Logic.{⊎-elim}
 use mathlib.Core.List.{List}
 use Prim.Native.Nat.{_-_, _≤_}

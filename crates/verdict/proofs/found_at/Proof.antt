@@ -1,4 +1,3 @@
-use native.Mathlib.Omega.{arith}
 use borrow.Author.Needs.{needs}
 use Rattle.verdict.proofs.Judging.{node-forbids, node-off}
 use Rattle.verdict.proofs.found_at.Statement.{statement}
