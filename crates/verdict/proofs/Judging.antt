@@ -1,15 +1,16 @@
 -- What is found at a node, and in a graph:
 --     node-forbids, node-off              the two answers at a node are the first of its findings
 --     nothing-yet, found-here, found-none the loop over the nodes
+--     off-within, within-more             the node of what is found
 --     judged                              a program that has been read, and its whole graph, are judged
 use mathlib.Core.Path.{_≡_, refl, sym, ap, _∙_}
 use mathlib.Core.Bool.{Bool, true, false, cond, not}
 use mathlib.Core.List.{List, [], _∷_, _++_}
-use Prim.Native.Nat.{ℕ, suc, _+_, _-_, _^_, _<_, _≤_}
+use Prim.Native.Nat.{ℕ, zero, suc, _+_, _-_, _^_, _<_, _≤_}
 use native.Mathlib.Omega.{arith}
 use native.Mathlib.Numerals.{add-one}
 use native.Mathlib.Nat.{mul-add-mod-self-right, mod-eq-of-lt}
-use lib.Dec.{eqb}
+use lib.Dec.{eqb, ltb}
 use lib.ListN.{length, getD, take, drop, replicate, length-drop, length-replicate}
 use lib.Seq.{sets, sets-eq, take-at, getD-drop, drop-drop}
 use borrow.Author.Tests.{ne-eqb}
@@ -33,7 +34,8 @@ use Rattle.verdict.specs.Verdicts.{Finding, Forbid, RunOff, ends, hasNex
 use Rattle.verdict.specs.declared.Found.{Found}
 use Rattle.verdict.specs.declared.Found.the-variants.{Nothing}
 use Rattle.verdict.specs.declared.Found.the-variants.{Forbid as MayForbid}
-use Rattle.verdict.specs.Working.{endsOf, askedEnds, foundOf, firstFree, leadsAt, endAt, firstOff, Names, Judged}
+use Rattle.verdict.specs.declared.Found.the-variants.{RunOff as MayRunOff}
+use Rattle.verdict.specs.Working.{endsOf, askedEnds, foundOf, Within, firstFree, leadsAt, endAt, firstOff, Names, Judged}
 use Rattle.verdict.proofs.Asked.{asked-at}
 use Rattle.verdict.proofs.Combinations.{forbids-here, forbids-none}
 use Rattle.verdict.proofs.Ends.{ends-found}
@@ -118,6 +120,23 @@ module _ {p : Program} {ls : List Lemma} {g : Graph} {es : List Entry} {literals
     node-off h shown T r ir =
         ir ∙ ap (λ (n : ℕ). firstOff (leadsAt l actions k) asked shown k 0 n) (J .action-count) ∙ runs-from shown (rw set-is at T) (p .actions) 0 refl
         ∙ forbids-none (length (p .predicates)) (payload (nodeWord g k)) small k (runsOff p ls g k 0 (p .actions)) (p .forbidden) (J .good .forbidden .each) (omega (arith, free-is, J .forbidden-count))
+
+-- ---- the node of what is found
+pub off-within : (leads : ℕ → Bool) (asked shown : List ℕ) (k j n : ℕ) → Within (k + 1) (firstOff leads asked shown k j n)
+unfolding firstOff
+off-within leads asked shown k j zero = tt
+off-within leads asked shown k j (suc n) =
+    go (leads j) (ltb (firstMissing (getD asked j 0) (getD shown j 0)) 64) _ _ (firstOff leads asked shown k (suc j) n) (off-within leads asked shown k (suc j) n)
+  where
+    go : (b m : Bool) (v : ℕ) (high : Bool) (rest : Found) → Within (k + 1) rest → Within (k + 1) (cond b (cond m (MayRunOff k j v high) rest) rest)
+    go true true v high rest h = omega arith
+    go true false v high rest h = h
+    go false m v high rest h = h
+
+pub within-more : (r : Found) (m n : ℕ) → m ≤ n → Within m r → Within n r
+within-more Nothing m n le h = tt
+within-more (MayForbid k b) m n le h = omega arith
+within-more (MayRunOff k j v high) m n le h = omega arith
 
 -- ---- the loop over the nodes
 not-nothing : (f : Finding) → foundOf (f ∷ []) ≡ Nothing → ⊥

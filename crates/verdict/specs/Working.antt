@@ -5,6 +5,7 @@
 -- Earlier, Traced — an origin names an earlier node and one of a actions; so does each of a graph of at most 512 nodes
 -- endsTo, endsOf, askedEnds — the places of both ends of each variable that is marked, below v; of each that an action sets; for each action of a program
 -- foundAs, foundOf — a finding; the first of some, or nothing
+-- Within          — the node of what is found is below n
 -- firstFree       — the first combination that no literal of a set contradicts, or their count
 -- leadsAt         — the edge word of node k and action j names a successor
 -- endAt, firstOff — what the place of a missing end says; what is found at node k of the actions from j on
@@ -75,6 +76,11 @@ foundAs (RunOff k j v high) = MayRunOff k j v high
 abbrev pub foundOf : List Finding → Found
 foundOf [] = Nothing
 foundOf (f ∷ fs) = foundAs f
+
+abbrev pub Within : ℕ → Found → Type 0
+Within n Nothing = Unit {0}
+Within n (MayForbid k b) = k < n
+Within n (MayRunOff k j v high) = k < n
 
 unfoldable pub firstFree : ℕ → List Literals → ℕ
 firstFree set [] = 0

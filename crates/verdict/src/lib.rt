@@ -1,7 +1,7 @@
 // Findings, verdicts and paths of a graph.
 ghost use mathlib.Core.Path.{_≡_};
 ghost use mathlib.Core.List.{List, [], _++_, map, reverse};
-ghost use Prim.Native.Nat.{ℕ, _/_, _%_, _^_, _<_, _≤_};
+ghost use Prim.Native.Nat.{ℕ, _+_, _/_, _%_, _^_, _<_, _≤_};
 ghost use lib.ListN.{length, drop, take};
 ghost use Rattle.words.specs.Words.{word};
 ghost use Rattle.grammar.specs.Programs.{Program};
@@ -11,7 +11,7 @@ ghost use Rattle.gather.specs.Gathering.{entries};
 ghost use Rattle.search.specs.Search.{Graph, Done, count};
 ghost use Rattle.records.specs.Records.{mostNodes, graphWords, graphList};
 ghost use Rattle.verdict.specs.Verdicts.{findingsAt, findings, STEP, pathWords, pathList, stepsTo};
-ghost use Rattle.verdict.specs.Working.{originAt, backAt, Traced, endsTo, askedEnds, foundOf, firstFree, leadsAt, firstOff, Judged};
+ghost use Rattle.verdict.specs.Working.{originAt, backAt, Traced, endsTo, askedEnds, foundOf, Within, firstFree, leadsAt, firstOff, Judged};
 use programs::Image;
 use words::Literals;
 
@@ -151,7 +151,8 @@ fn leads(graph: &[u32], actions: usize, k: usize, j: usize) -> bool
     graph[at] % 268435456 != 268435455
 }
 
-// The first end of a range that is asked for and not shown at node k, of the actions that have a successor there.
+// The first end of a range that is asked for and not shown at node k, of the actions that have a successor there. The ends of variable v
+// have the places 28 + 2v and 29 + 2v.
 fn first_off(asked: [u64; 16], shown: [u64; 16], actions: usize, graph: &[u32], k: usize) -> Found
     requires { ⌜ (graphWords ≤ length (now graph)) × (actions ≤ 16) × (k < mostNodes) ⌝ }
     ensures { λ r. ⌜ r ≡ firstOff (leadsAt (now (graph .entry)) actions k) asked shown k 0 actions ⌝ }
@@ -183,7 +184,7 @@ fn found_at(
     k: usize,
 ) -> Found
     requires { ⌜ (n ≤ length (now premises)) × (n ≤ length (now keys)) × (forbidden ≤ 8) × (actions ≤ 16) × (graphWords ≤ length (now graph)) × (k < mostNodes) ⌝ }
-    ensures { λ r. ⌜ ((p : Program) (ls : List Lemma) (g : Graph) → Judged p ls g (entries (now (premises .entry)) (now (keys .entry)) n) literals forbidden asked actions (now (graph .entry)) → k < count g → r ≡ foundOf (findingsAt p ls g k)) ⌝ }
+    ensures { λ r. ⌜ Within (k + 1) r × ((p : Program) (ls : List Lemma) (g : Graph) → Judged p ls g (entries (now (premises .entry)) (now (keys .entry)) n) literals forbidden asked actions (now (graph .entry)) → k < count g → r ≡ foundOf (findingsAt p ls g k)) ⌝ }
 {
     let set = records::word_at(graph, actions, k) % 268435456;
     let b = first_free(literals, forbidden, set);
@@ -207,7 +208,7 @@ pub fn first_finding(
     nodes: usize,
 ) -> Found
     requires { ⌜ (n ≤ length (now premises)) × (n ≤ length (now keys)) × (forbidden ≤ 8) × (actions ≤ 16) × (graphWords ≤ length (now graph)) × (nodes ≤ mostNodes) ⌝ }
-    ensures { λ r. ⌜ ((p : Program) (ls : List Lemma) (g : Graph) → Judged p ls g (entries (now (premises .entry)) (now (keys .entry)) n) literals forbidden asked actions (now (graph .entry)) → nodes ≡ count g → r ≡ foundOf (findings p ls g)) ⌝ }
+    ensures { λ r. ⌜ Within nodes r × ((p : Program) (ls : List Lemma) (g : Graph) → Judged p ls g (entries (now (premises .entry)) (now (keys .entry)) n) literals forbidden asked actions (now (graph .entry)) → nodes ≡ count g → r ≡ foundOf (findings p ls g)) ⌝ }
 {
     let mut k: usize = 0;
     while k < nodes {

@@ -2,7 +2,7 @@
 use mathlib.Core.Path.{_≡_}
 use mathlib.Core.Logic.{⊎-elim}
 use mathlib.Core.List.{List}
-use Prim.Native.Nat.{_-_, _≤_}
+use Prim.Native.Nat.{_+_, _-_, _≤_}
 use native.Mathlib.Omega.{arith}
 use borrow.Author.Needs.{needs}
 use Rattle.grammar.specs.Programs.{Program}
@@ -10,7 +10,7 @@ use Rattle.lemmas.specs.Lemmas.{Lemma}
 use Rattle.gather.specs.Gathering.{entries}
 use Rattle.search.specs.Search.{Graph, count}
 use Rattle.verdict.specs.Working.{Judged}
-use Rattle.verdict.proofs.Judging.{Nothing-before, before-first, nothing-yet, found-here, found-none}
+use Rattle.verdict.proofs.Judging.{Nothing-before, before-first, nothing-yet, found-here, found-none, within-more}
 use Rattle.verdict.proofs.first_finding.Statement.{statement}
 use Rattle.verdict.proofs.first_finding.Tie as tie
 
@@ -42,20 +42,22 @@ loop-again c =
     let l = f .before .before in
     let nodes = l .before .before .before .before .args .nodes in (
       omega arith,
-      λ p ls g J e. nothing-yet p ls g nodes (l .loop .k) (l .loop .inv .1 p ls g J e) (omega arith) (f .found-at .result) (f .found-at .ensures p ls g J (omega arith)) (c .enum-told .given .1),
+      λ p ls g J e. nothing-yet p ls g nodes (l .loop .k) (l .loop .inv .1 p ls g J e) (omega arith) (f .found-at .result) (f .found-at .ensures .1 p ls g J (omega arith)) (c .enum-told .given .1),
     )
 
 returns : tie.Need-returns Inv-loop μ-loop
 returns c =
-    λ p ls g J e. let f = c .before in
+    let f = c .before in
     let l = f .before .before in
-    let nodes = l .before .before .before .before .args .nodes in
-    found-here p ls g nodes (l .loop .k) (l .loop .inv .1 p ls g J e) (omega arith) (f .found-at .result) (f .found-at .ensures p ls g J (omega arith)) (λ z. ⊎-elim (λ q. omega arith) (λ q. omega arith) (rw z at (c .match .keys2)))
+    let nodes = l .before .before .before .before .args .nodes in (
+      within-more (f .found-at .result) (l .loop .k + 1) nodes (omega arith) (f .found-at .ensures .0),
+      λ p ls g J e. found-here p ls g nodes (l .loop .k) (l .loop .inv .1 p ls g J e) (omega arith) (f .found-at .result) (f .found-at .ensures .1 p ls g J (omega arith)) (λ z. ⊎-elim (λ q. omega arith) (λ q. omega arith) (rw z at (c .match .keys2))),
+    )
 
 returns-2 : tie.Need-returns-2 Inv-loop μ-loop
 returns-2 c =
-    λ p ls g J e. let l = c .before in
-    found-none p ls g (l .before .before .before .before .args .nodes) (l .loop .k) (l .loop .inv .1 p ls g J e) (omega arith)
+    let l = c .before in
+    (tt, λ p ls g J e. found-none p ls g (l .before .before .before .before .args .nodes) (l .loop .k) (l .loop .inv .1 p ls g J e) (omega arith))
 
 pub first-finding-spec : {M : Type 1} → statement M
 first-finding-spec =

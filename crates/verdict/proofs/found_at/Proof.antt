@@ -1,5 +1,9 @@
+use mathlib.Core.Path.{sym, subst}
+use Prim.Native.Nat.{_+_}
+use native.Mathlib.Omega.{arith}
 use borrow.Author.Needs.{needs}
-use Rattle.verdict.proofs.Judging.{node-forbids, node-off}
+use Rattle.verdict.specs.Working.{Within, leadsAt}
+use Rattle.verdict.proofs.Judging.{node-forbids, node-off, off-within}
 use Rattle.verdict.proofs.found_at.Statement.{statement}
 use Rattle.verdict.proofs.found_at.Tie as tie
 
@@ -11,8 +15,9 @@ first-free-requires c κs = search needs
 
 returns : tie.Need-returns
 returns c =
-    λ p ls g J h. let w = c .before .before .word-at in
-    node-forbids J (c .before .before .before .before .before .before .args .k) h (w .result) (c .before .first-free .result) (w .ensures) (c .before .first-free .ensures) (c .if1 .taken)
+    let w = c .before .before .word-at in
+    let k = c .before .before .before .before .before .before .args .k in
+    (omega arith, λ p ls g J h. node-forbids J k h (w .result) (c .before .first-free .result) (w .ensures) (c .before .first-free .ensures) (c .if1 .taken))
 
 gather-all-requires : tie.Need-gather-all-requires
 gather-all-requires c κs = search needs
@@ -22,9 +27,13 @@ first-off-requires c κs = search needs
 
 returns-2 : tie.Need-returns-2
 returns-2 c =
-    λ p ls g J h. let q = c .before .before .before in
+    let q = c .before .before .before in
     let w = q .before .word-at in
-    node-off J (q .before .before .before .before .before .args .k) h (w .result) (q .first-free .result) (w .ensures) (q .first-free .ensures) (c .before .before .if1 .left) (c .before .gather-all .result) (c .before .gather-all .ensures) (c .first-off .result) (c .first-off .ensures)
+    let a = q .before .before .before .before .before .args in
+    let shown = c .before .gather-all in (
+      subst (Within (a .k + 1)) (sym (c .first-off .ensures)) (off-within (leadsAt (a .graph .now) (a .actions) (a .k)) (a .asked) (shown .result) (a .k) 0 (a .actions)),
+      λ p ls g J h. node-off J (a .k) h (w .result) (q .first-free .result) (w .ensures) (q .first-free .ensures) (c .before .before .if1 .left) (shown .result) (shown .ensures) (c .first-off .result) (c .first-off .ensures),
+    )
 
 pub found-at-spec : {M : Type 1} → statement M
 found-at-spec =
