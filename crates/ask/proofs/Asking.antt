@@ -47,12 +47,15 @@ refused-not-accepted e = let z : _≡_ {A = ℕ} 0 1 = cc in absurd (omega arith
 
 -- ---- the program
 module _ (ws : List ℕ) {x : Loaded} (e : x ≡ loaded (read ws)) where
-  pub program-refused : (lemmas : List ℕ) (k : ℕ) {r : Refusal} → x .status ≡ Failed r → Answers ws lemmas k (Refused r)
-  program-refused lemmas k {r} h = (go (read ws) refl, refused-not-accepted)
+  pub read-refused : {r : Refusal} → x .status ≡ Failed r → read ws ≡ refused r
+  read-refused {r} h = go (read ws) refl
     where
-      go : (m : Read Program) → read ws ≡ m → Refused r ≡ ask ws lemmas k
+      go : (m : Read Program) → read ws ≡ m → read ws ≡ refused r
       go (got p us i) q = failed-not-ready (sym (ap (λ (y : Loaded). y .status) (rw q at e)) ∙ h)
-      go (refused s) q = let f : Failed s ≡ Failed r = sym (ap (λ (y : Loaded). y .status) (rw q at e)) ∙ h in rw q (cc f)
+      go (refused s) q = let f : Failed s ≡ Failed r = sym (ap (λ (y : Loaded). y .status) (rw q at e)) ∙ h in q ∙ cc f
+
+  pub program-refused : (lemmas : List ℕ) (k : ℕ) {r : Refusal} → x .status ≡ Failed r → Answers ws lemmas k (Refused r)
+  program-refused lemmas k h = (rw (read-refused h) refl, refused-not-accepted)
 
   -- a program that was read, with its image
   pub record Program-read : Type 0 where
@@ -97,12 +100,15 @@ each-lemma p (l ∷ ls) (suc k) good h = each-lemma p ls k (good .1) (le-of-suc-
 
 -- ---- the list, over a program that was read
 module _ (ws : List ℕ) (p : Program) {us : List ℕ} {i : ℕ} (q : read ws ≡ got p us i) (ok : WellFormed p) (lemmas : List ℕ) {y : Listed} (e : y ≡ listed (readLemmas p lemmas)) (k : ℕ) where
-  pub list-refused : {r : Refusal} → y .status ≡ Failed r → Answers ws lemmas k (Refused r)
-  list-refused {r} h = (go (readLemmas p lemmas) refl, refused-not-accepted)
+  pub lemmas-refused : {r : Refusal} → y .status ≡ Failed r → readLemmas p lemmas ≡ refused r
+  lemmas-refused {r} h = go (readLemmas p lemmas) refl
     where
-      go : (m : Read (List Lemma)) → readLemmas p lemmas ≡ m → Refused r ≡ ask ws lemmas k
+      go : (m : Read (List Lemma)) → readLemmas p lemmas ≡ m → readLemmas p lemmas ≡ refused r
       go (got ls vs j) t = failed-not-ready (sym (ap (λ (z : Listed). z .status) (rw t at e)) ∙ h)
-      go (refused s) t = let f : Failed s ≡ Failed r = sym (ap (λ (z : Listed). z .status) (rw t at e)) ∙ h in rw (q, t) (cc f)
+      go (refused s) t = let f : Failed s ≡ Failed r = sym (ap (λ (z : Listed). z .status) (rw t at e)) ∙ h in t ∙ cc f
+
+  pub list-refused : {r : Refusal} → y .status ≡ Failed r → Answers ws lemmas k (Refused r)
+  list-refused h = (rw (q, lemmas-refused h) refl, refused-not-accepted)
 
   pub record Lemmas-read : Type 0 where
     pub list : List Lemma
@@ -125,7 +131,7 @@ module _ (ws : List ℕ) (p : Program) {us : List ℕ} {i : ℕ} (q : read ws �
     pub no-lemma : y .count ≤ k → Answers ws lemmas k (Refused (Absent k))
     no-lemma h = (rw (q, l .is, le-ltb k (length (l .list)) (omega (arith, l .counted))) refl, refused-not-accepted)
 
-    good : Few 512 (LemmaOk p) (l .list)
+    pub good : Few 512 (LemmaOk p) (l .list)
     good = lemmas-accepted p ok lemmas (l .list) (l .rest) (l .index) (l .is) .good
 
     module _ (h : k < y .count) where
@@ -154,7 +160,7 @@ module _ (ws : List ℕ) (p : Program) {us : List ℕ} {i : ℕ} (q : read ws �
           let t = item-at (lemma-codec p ok) noLemma lemmas [] refl 0 (l .list) k words (good .each) known in
           record { after = t .after; next = getD (places encodeLemma 0 (l .list)) k 0 + length (encodeLemma (getD (l .list) k noLemma)); read-here = rw place-is (t .read) }
 
-      lemma-is : theLemma p lemmas place ≡ getD (l .list) k noLemma
+      pub lemma-is : theLemma p lemmas place ≡ getD (l .list) k noLemma
       lemma-is = ap lemmaOr (stands .read-here)
 
       pub is-lemma : IsLemma p lemmas place

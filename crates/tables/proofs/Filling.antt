@@ -84,7 +84,7 @@ module _ (p : Program) (ok : WellFormed p) (ws begin : List ℕ) (count : ℕ) (
         let all : length ls ≤ k = omega (arith, b .counted) in
         record {
           off = sym (rw (drop-of-length-le ls {i = k} all, add-zero k) at (sym (t .none-off)));
-          few = omega (arith, t .few, t .within, b .good .few);
+          few = (omega (arith, t .few, t .within, b .good .few, t .long-premises), omega (arith, t .few, t .within, b .good .few, t .long-keys));
           same = λ q. t .same ∙ rw (take-all k ls all) refl;
         }
 
@@ -113,7 +113,7 @@ module _ (p : Program) (ok : WellFormed p) (ws begin : List ℕ) (count : ℕ) (
         turn-off q =
             let f = off-tests (largestOf p here) (in64 (largestOf p here)) refl (sym weight ∙ q) in
             let g = rw (first-here, f) at (t .none-off) in
-            record { off = sym (add-zero k) ∙ g; few = omega arith; same = λ z. absurd (omega (arith, known)) }
+            record { off = sym (add-zero k) ∙ g; few = (omega arith, omega arith); same = λ z. absurd (omega (arith, known)) }
 
         pub turn-next : {z : ℤ} {premises key more : ℕ} → x ≡ Value z → premises ≡ payload (getD ws (place + 1) 0)
             → key ≡ bits 27 20 (getD ws place 0) * 64 + placeOf (bits 19 16 (getD ws place 0)) (bits 7 0 (getD ws place 0)) → more ≡ oneIf (ltZ z (pos 0))

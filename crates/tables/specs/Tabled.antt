@@ -40,5 +40,5 @@ pub record Begun (p : Program) (ws begin : List ℕ) (count : ℕ) (ls : List Le
 
 pub record Tabled (p : Program) (ls : List Lemma) (t : Tables) : Type 0 where
   pub off : t .off ≡ firstOff p ls
-  pub few : t .count ≤ 512
+  pub few : (t .count ≤ length (t .premises)) × (t .count ≤ length (t .keys))
   pub same : t .off ≡ length ls → entries (t .premises) (t .keys) (t .count) ≡ map entryOf (claims p ls)

@@ -54,4 +54,4 @@ module _ (p : Program) (asked : List ℕ) (j : ℕ) (h : Asking p asked j) where
 pub asked-at : (p : Program) (j : ℕ) → j < length (p .actions) → length (p .actions) ≤ 16 → getD (askedEnds p) j 0 ≡ endsOf (actionOf p j)
 asked-at p j l few =
     let n = length-map (p .actions) endsOf in
-    stored-at 16 (map endsOf (p .actions)) j (omega arith) (omega arith) ∙ getD-mapped endsOf (p .actions) j noneAction 0 l
+    stored-at 16 0 (map endsOf (p .actions)) j 0 (omega arith) (omega arith) ∙ getD-mapped endsOf (p .actions) j noneAction 0 l

@@ -1,0 +1,108 @@
+-- The path to the first finding's node is a walk in the graph from node 0 to it.
+use mathlib.Core.Path.{_≡_, refl}
+use mathlib.Core.Bool.{Bool, true, false, cond}
+use mathlib.Core.List.{List, [], _∷_, _++_}
+use Prim.Native.Nat.{ℕ, zero, suc, _+_, _<_}
+use native.Mathlib.Omega.{arith}
+use lib.ListN.{length}
+use Rattle.words.specs.declared.Literals.{Literals}
+use Rattle.grammar.specs.Reading.{Read, got, refused}
+use Rattle.grammar.specs.Programs.{Assignment, Action, Program}
+use Rattle.grammar.specs.WellFormed.{Each}
+use Rattle.programs.specs.Calls.{read}
+use Rattle.lemmas.specs.Lemmas.{Lemma}
+use Rattle.lemmas.specs.LemmaGrammar.{readLemmas}
+use Rattle.words.specs.Words.{payload}
+use Rattle.formula.specs.Formula.{Literal}
+use Rattle.search.specs.Search.{Answer, Graph, Result, Done, Over, count, edge}
+use Rattle.search.proofs.Theorem.{whole}
+use Rattle.search.proofs.Paths.{path-in-graph}
+use Rattle.records.specs.Records.{mostNodes}
+use Rattle.abstraction.specs.Abstraction.{literalsIn, applies, successor, start, answer, graph}
+use Rattle.abstraction.specs.Faithful.{literalsAt}
+use Rattle.verdict.specs.Verdicts.{Finding, Forbid, RunOff, contradicted, unless, forbids, ends, hasNext, runsOff, findingsAt, findingsFrom, findings, nodeOf}
+use Rattle.judge.specs.Calls.{WalksTo, WalksIn, WalksAt, WalksOf}
+
+-- ---- every finding is at a node of the graph
+abbrev At : ℕ → List Finding → Type 0
+At k fs = Each (λ f. nodeOf f ≡ k) fs
+
+module _ (P : Finding → Type 0) where
+  each-append : (xs ys : List Finding) → Each P xs → Each P ys → Each P (xs ++ ys)
+  each-append [] ys h q = q
+  each-append (x ∷ xs) ys h q = (h .0, each-append xs ys (h .1) q)
+
+  each-weaken : (Q : Finding → Type 0) → ((f : Finding) → P f → Q f) → (xs : List Finding) → Each P xs → Each Q xs
+  each-weaken Q g [] h = tt
+  each-weaken Q g (x ∷ xs) h = (g x (h .0), each-weaken Q g xs (h .1))
+
+unless-at : (k : ℕ) (b : Bool) (f : Finding) → nodeOf f ≡ k → At k (unless b f)
+unless-at k true f h = tt
+unless-at k false f h = (h, tt)
+
+forbids-at : (k : ℕ) (m : List Literal) (b : ℕ) (cs : List Literals) → At k (forbids k m b cs)
+unfolding forbids
+forbids-at k m b [] = tt
+forbids-at k m b (c ∷ cs) =
+    each-append (λ f. nodeOf f ≡ k) (unless (contradicted (literalsIn 14 (c .0)) m) (Forbid k b)) (forbids k m (suc b) cs)
+    (unless-at k (contradicted (literalsIn 14 (c .0)) m) (Forbid k b) refl) (forbids-at k m (suc b) cs)
+
+ends-at : (shows : ℕ → ℕ → Bool) (k j : ℕ) (ss : List Assignment) → At k (ends shows k j ss)
+unfolding ends
+ends-at shows k j [] = tt
+ends-at shows k j (s ∷ ss) =
+    each-append (λ f. nodeOf f ≡ k) (unless (shows 3 (s .variable)) (RunOff k j (s .variable) false)) _ (unless-at k (shows 3 (s .variable)) (RunOff k j (s .variable) false) refl)
+    (each-append (λ f. nodeOf f ≡ k) (unless (shows 4 (s .variable)) (RunOff k j (s .variable) true)) (ends shows k j ss)
+    (unless-at k (shows 4 (s .variable)) (RunOff k j (s .variable) true) refl) (ends-at shows k j ss))
+
+if-at : (k : ℕ) (b : Bool) (fs : List Finding) → At k fs → At k (cond b fs [])
+if-at k true fs h = h
+if-at k false fs h = tt
+
+abbrev pub next : Program → List Lemma → ℕ → ℕ → Answer
+next p ls w j = answer (successor p ls j (literalsIn 14 (payload w)))
+
+module _ (p : Program) (ls : List Lemma) (g : Graph) where
+  runs-off-at : (k j : ℕ) (xs : List Action) → At k (runsOff p ls g k j xs)
+  unfolding runsOff
+  runs-off-at k j [] = tt
+  runs-off-at k j (a ∷ rest) =
+      let here = ends (applies p ls j (literalsAt g k)) k j (a .sets) in
+      let b = hasNext (edge (length (p .actions)) g k j) in
+      each-append (λ f. nodeOf f ≡ k) (cond b here []) (runsOff p ls g k (suc j) rest) (if-at k b here (ends-at (applies p ls j (literalsAt g k)) k j (a .sets))) (runs-off-at k (suc j) rest)
+
+  findings-at : (k : ℕ) → At k (findingsAt p ls g k)
+  findings-at k = each-append (λ f. nodeOf f ≡ k) (forbids k (literalsAt g k) 0 (p .forbidden)) (runsOff p ls g k 0 (p .actions)) (forbids-at k (literalsAt g k) 0 (p .forbidden)) (runs-off-at k 0 (p .actions))
+
+  within-from : (k n : ℕ) → Each (λ f. nodeOf f < k + n) (findingsFrom p ls g k n)
+  unfolding findingsFrom
+  within-from k zero = tt
+  within-from k (suc n) =
+      each-append (λ f. nodeOf f < k + suc n) (findingsAt p ls g k) (findingsFrom p ls g (suc k) n)
+      (each-weaken (λ f. nodeOf f ≡ k) (λ f. nodeOf f < k + suc n) (λ f e. omega (arith, e)) (findingsAt p ls g k) (findings-at k))
+      (each-weaken (λ f. nodeOf f < suc k + n) (λ f. nodeOf f < k + suc n) (λ f e. omega (arith, e)) (findingsFrom p ls g (suc k) n) (within-from (suc k) n))
+
+  pub findings-within : Each (λ f. nodeOf f < count g) (findings p ls g)
+  findings-within = each-weaken (λ f. nodeOf f < 0 + count g) (λ f. nodeOf f < count g) (λ f e. omega (arith, e)) (findings p ls g) (within-from 0 (count g))
+
+  -- ---- the path
+  graph-walks : graph p ls ≡ Done g → (fs : List Finding) → Each (λ f. nodeOf f < count g) fs → WalksTo p g fs
+  graph-walks e [] h = tt
+  graph-walks e (f ∷ fs) h =
+      let w = whole (answer (start p ls)) (next p ls) (length (p .actions)) mostNodes g e in
+      path-in-graph (answer (start p ls)) (next p ls) (length (p .actions)) mostNodes g w mostNodes (nodeOf f) (omega (arith, w .within, h .0)) (h .0)
+
+result-walks : (p : Program) (ls : List Lemma) (r : Result) → graph p ls ≡ r → WalksIn p ls r
+result-walks p ls (Done g) e = graph-walks p ls g e (findings p ls g) (findings-within p ls g)
+result-walks p ls Over e = tt
+
+lemmas-walk : (p : Program) (m : Read (List Lemma)) → WalksAt p m
+lemmas-walk p (got ls us i) = result-walks p ls (graph p ls) refl
+lemmas-walk p (refused r) = tt
+
+program-walks : (m : Read Program) (lemmas : List ℕ) → WalksOf m lemmas
+program-walks (got p us i) lemmas = lemmas-walk p (readLemmas p lemmas)
+program-walks (refused r) lemmas = tt
+
+pub judge-walks : (ws lemmas : List ℕ) → WalksOf (read ws) lemmas
+judge-walks ws lemmas = program-walks (read ws) lemmas
