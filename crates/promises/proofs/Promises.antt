@@ -1,11 +1,15 @@
 -- Every promise, with its type and nothing else. The definitions that the types name are in the crates' specs/ folders.
 --
--- The calls' own contracts stand in the sources, without any `requires`:
---   programs::check(words)            r ≡ check words                              crates/programs/src/lib.rt
---   programs::action_part(words, k)   r ≡ actionPart words k, and PartOf words r   crates/programs/src/lib.rt
---   runs::step(words, k, state)       r and the state at exit are those of stepCall words k state   crates/runs/src/lib.rt
+-- The calls' own contracts stand in the sources, without any `requires`; all words are the lent lists' at entry:
+--   programs::check(words)             r ≡ check words                                                        crates/programs/src/lib.rt
+--   programs::action_part(words, k)    r ≡ actionPart words k, and PartOf words r                             crates/programs/src/lib.rt
+--   runs::step(words, k, state)        r and the state at exit are those of stepCall words k state            crates/runs/src/lib.rt
+--   ask::ask(words, lemmas, k)         r ≡ ask words lemmas k; r ≡ Accepted → TrueIn (read words) lemmas k    crates/ask/src/lib.rt
+--   judge::judge(words, lemmas, g, p)  r, g and p at exit are those of judge words lemmas g p; Demand2Of and WalksOf (read words) lemmas;
+--                                      r ≡ Safe n e → SafeOf (read words)                                     crates/judge/src/lib.rt
 use mathlib.Core.Path.{_≡_}
 use mathlib.Core.Logic.{_↔_}
+use mathlib.Core.Bool.{true}
 use mathlib.Core.List.{List, [], _∷_}
 use Prim.Native.Nat.{ℕ, _<_}
 use lib.ListN.{length}
@@ -18,8 +22,8 @@ use Rattle.rows.proofs.Laws.{negation, largest-is}
 use Rattle.grammar.specs.Reading.{got}
 use Rattle.grammar.specs.Programs.{Program}
 use Rattle.grammar.specs.Grammar.{program}
-use Rattle.grammar.specs.Encoding.{encode}
-use Rattle.grammar.specs.WellFormed.{WellFormed}
+use Rattle.grammar.specs.Encoding.{encode, concat}
+use Rattle.grammar.specs.WellFormed.{WellFormed, Each, Few}
 use Rattle.grammar.proofs.ProgramLaws.{accepted, encoded}
 use Rattle.programs.specs.Calls.{read}
 use Rattle.runs.specs.declared.Stepped.the-variants.{RunsOff}
@@ -27,6 +31,18 @@ use Rattle.runs.specs.Runs.{Inside, Start, run, Safe}
 use Rattle.runs.specs.Calls.{stepCall}
 use Rattle.runs.proofs.Worked.{fade, house, incident, fade-starts, house-starts, incident-unsafe}
 use Rattle.runs.proofs.Steps.{two-calls}
+use Rattle.lemmas.specs.Lemmas.{Lemma, accepted as lemmaAccepted}
+use Rattle.lemmas.specs.LemmaGrammar.{readLemmas, encodeLemma, LemmaOk}
+use Rattle.lemmas.specs.Truth.{True}
+use Rattle.lemmas.proofs.LemmaLaws.{lemmas-accepted, lemmas-encoded}
+use Rattle.lemmas.proofs.Sound.{accepted-true}
+use Rattle.abstraction.specs.Abstraction.{graph}
+use Rattle.abstraction.specs.Faithful.{Demand2}
+use Rattle.abstraction.proofs.Demand2.{demand2}
+use Rattle.judge.specs.declared.Judged.the-variants.{Safe as IsSafe}
+use Rattle.judge.specs.Calls.{judge, SafeOf, WalksOf}
+use Rattle.judge.proofs.Promised.{judge-safe}
+use Rattle.judge.proofs.Walks.{judge-walks}
 
 -- two Step calls in a row, neither of which runs off, are the run of the two actions
 pub steps-are-runs : (ws : List ℕ) (p : Program) {us : List ℕ} {i : ℕ} → read ws ≡ got p us i → (j k : ℕ) (s : List ℤ) → j < length (p .actions) → k < length (p .actions) → Inside p s
@@ -35,11 +51,8 @@ pub steps-are-runs : (ws : List ℕ) (p : Program) {us : List ℕ} {i : ℕ} →
 steps-are-runs = two-calls
 
 -- the definitions say something: Fade and House have start states, and a logic that takes 10 off a level of 5 is not safe
-pub fade-has-a-start : Start fade (pos 400 ∷ [])
-fade-has-a-start = fade-starts
-
-pub house-has-a-start : Start house (pos 0 ∷ pos 0 ∷ [])
-house-has-a-start = house-starts
+pub start-states : Start fade (pos 400 ∷ []) × Start house (pos 0 ∷ pos 0 ∷ [])
+start-states = (fade-starts, house-starts)
 
 pub incident-is-unsafe : Safe incident → ⊥
 incident-is-unsafe = incident-unsafe
@@ -59,3 +72,30 @@ read-encode = encoded
 -- an accepted list is the words of what was read, and what was read is well formed
 pub encode-read : (ws : List ℕ) (p : Program) (vs : List ℕ) (j : ℕ) → program ws 0 ≡ got p vs j → (ws ≡ encode p) × WellFormed p
 encode-read ws p vs j h = let a = accepted ws p vs j h in (a .words, a .good)
+
+-- the same of a lemma list over a well-formed program
+pub lemmas-read-encode : (p : Program) → WellFormed p → (ls : List Lemma) → Few 512 (LemmaOk p) ls → (j : ℕ) × (readLemmas p (concat encodeLemma ls) ≡ got ls [] j)
+lemmas-read-encode = lemmas-encoded
+
+pub lemmas-encode-read : (p : Program) → WellFormed p → (ws : List ℕ) (ls : List Lemma) (vs : List ℕ) (j : ℕ) → readLemmas p ws ≡ got ls vs j → (ws ≡ concat encodeLemma ls) × Few 512 (LemmaOk p) ls
+lemmas-encode-read p ok ws ls vs j h = let a = lemmas-accepted p ok ws ls vs j h in (a .words, a .good)
+
+-- an accepted lemma is true of all whole numbers in the ranges
+pub lemma-true : (p : Program) → WellFormed p → (l : Lemma) → LemmaOk p l → lemmaAccepted p l ≡ true → True p l
+lemma-true = accepted-true
+
+-- demand 2: the graph is the one that formula (3) describes; a 513th node is needed exactly where more than 512 are reachable
+pub graph-faithful : (p : Program) → WellFormed p → (ls : List Lemma) → Each (LemmaOk p) ls → Demand2 p ls (graph p ls)
+graph-faithful = demand2
+
+-- demand 3: Judge's verdict safe says that the program is safe, whatever the lemma list
+pub verdict-safe : (ws lemmas gl pl : List ℕ) (n e : ℕ) → judge ws lemmas gl pl .answer ≡ IsSafe n e → SafeOf (read ws)
+verdict-safe ws lemmas gl pl n e h = judge-safe ws lemmas gl pl h
+
+-- the path of a finding is a walk in the graph from node 0 to its node
+pub path-walks : (ws lemmas : List ℕ) → WalksOf (read ws) lemmas
+path-walks = judge-walks
+
+-- it says something: of a logic that takes 10 off a level of 5 no lemma list gets the verdict safe
+pub incident-never-safe : (ws lemmas gl pl : List ℕ) {us : List ℕ} {i : ℕ} → read ws ≡ got incident us i → (n e : ℕ) → judge ws lemmas gl pl .answer ≡ IsSafe n e → ⊥
+incident-never-safe ws lemmas gl pl q n e h = incident-unsafe (rw q at (judge-safe ws lemmas gl pl h))
