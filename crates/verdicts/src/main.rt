@@ -103,12 +103,12 @@ fn long(word: u32) -> u64
     word as u64
 }
 
-// The words of a list in one number below 2^32, which hangs on each of them and on their order.
+// The words of a list in one number below a prime near 2^32, which hangs on each of them and on their order.
 fn digest(list: &[u32]) -> u64 {
     let mut h: u64 = 0;
     let mut i: usize = 0;
     while i < list.len() {
-        h = (h % 4294967296 * 31 + long(list[i])) % 4294967296;
+        h = (h % 4294967291 * 1000003 + long(list[i]) + 1) % 4294967291;
         i += 1;
     }
     h

@@ -28,6 +28,9 @@ long-requires c κs = search needs
 add-h : tie.Need-add-h Inv-loop μ-loop
 add-h c = search needs
 
+add-h-2 : tie.Need-add-h-2 Inv-loop μ-loop
+add-h-2 c = search needs
+
 add-i : tie.Need-add-i Inv-loop μ-loop
 add-i c = search needs
 
@@ -52,6 +55,7 @@ digest-spec =
     shared-slice-read-long
     long-requires
     add-h
+    add-h-2
     add-i
     loop-less
     loop-again

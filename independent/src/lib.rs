@@ -1,0 +1,164 @@
+//! An independent implementation of document 01, "Show logic, lemmas and the abstract state graph".
+
+pub mod judge;
+pub mod lemma;
+pub mod program;
+pub mod records;
+pub mod shows;
+pub mod words;
+
+pub use judge::judge;
+use words::*;
+
+/// The number of the table and what is returned with it.
+#[derive(Clone, Copy, Debug, PartialEq, Eq)]
+pub struct Refusal {
+    pub number: u32,
+    pub value: u64,
+}
+
+#[derive(Clone, Copy, Debug, PartialEq, Eq)]
+pub struct Counts {
+    pub variables: usize,
+    pub start_rows: usize,
+    pub predicates: usize,
+    pub actions: usize,
+    pub forbidden: usize,
+}
+
+#[derive(Clone, Copy, Debug, PartialEq, Eq)]
+pub enum Stepped {
+    Moved,
+    NotEnabled,
+    /// The lowest variable whose exact new value is off its range.
+    RunsOff(usize),
+    Refused(Refusal),
+}
+
+#[derive(Clone, Copy, Debug, PartialEq, Eq)]
+pub enum Asked {
+    Accepted,
+    NotAccepted,
+    Refused(Refusal),
+}
+
+#[derive(Clone, Copy, Debug, PartialEq, Eq)]
+pub enum Judged {
+    Safe { nodes: usize, edges: usize },
+    MayForbid { node: usize, bad: usize, nodes: usize, edges: usize },
+    MayRunOff { node: usize, action: usize, variable: usize, high: bool, nodes: usize, edges: usize },
+    Refused(Refusal),
+}
+
+/// "*Check* reads a program and counts its variables, start rows, predicates, actions and forbidden
+/// combinations." Refuses 2 to 4.
+pub fn check(program: &[u32]) -> Result<Counts, Refusal> {
+    let program = program::read(program)?;
+    Ok(Counts {
+        variables: program.ranges.len(),
+        start_rows: program.start.len(),
+        predicates: program.predicates.len(),
+        actions: program.actions.len(),
+        forbidden: program.forbidden.len(),
+    })
+}
+
+/// "*Action part* hands back the words of one action as the part of the caller's own program list;
+/// the part runs from its ACTION word up to, but without, the next ACTION, SETS or END, and every
+/// refusal (2 to 4, then 8) here gives an empty part instead of a number."
+pub fn action_part(words: &[u32], k: usize) -> &[u32] {
+    match program::read(words) {
+        Ok(program) if k < program.actions.len() => {
+            let action = &program.actions[k];
+            &words[action.begin..action.end]
+        }
+        _ => &words[..0],
+    }
+}
+
+/// "*Step* runs one action on a lent list of 32-bit signed values: moved, not enabled, or runs off
+/// with the lowest such variable; only moved writes." Refuses 2 to 4, 8, 9, 10.
+pub fn step(words: &[u32], k: usize, state: &mut [i32]) -> Stepped {
+    let refuse = |number: u32, value: usize| Stepped::Refused(Refusal { number, value: value as u64 });
+    let program = match program::read(words) {
+        Ok(program) => program,
+        Err(refusal) => return Stepped::Refused(refusal),
+    };
+    let action = match program.actions.get(k) {
+        Some(action) => action,
+        None => return refuse(8, k),
+    };
+    if state.len() != program.ranges.len() {
+        return refuse(9, state.len());
+    }
+    for (variable, range) in program.ranges.iter().enumerate() {
+        if !(range.low..=range.high).contains(&i64::from(state[variable])) {
+            return refuse(10, variable);
+        }
+    }
+    // "An action is enabled when all its guard rows hold; with no guard it always is."
+    if !action.guards.iter().all(|row| row.holds(state)) {
+        return Stepped::NotEnabled;
+    }
+    // "Its assignments use the old values and happen at once; other variables keep theirs."
+    let values: Vec<(usize, i64)> =
+        action.assignments.iter().map(|a| (a.variable, a.row.value(state))).collect();
+    // "If an exact new value is off its range the action runs off." SET variables rise.
+    for (variable, value) in &values {
+        let range = program.ranges[*variable];
+        if !(range.low..=range.high).contains(value) {
+            return Stepped::RunsOff(*variable);
+        }
+    }
+    for (variable, value) in values {
+        state[variable] = value as i32;
+    }
+    Stepped::Moved
+}
+
+/// "*Ask* says whether lemma k is accepted." Refuses 2 to 4, 5 and 6, 8, 11 for that lemma.
+pub fn ask(words: &[u32], lemma_words: &[u32], k: usize) -> Asked {
+    let read = program::read(words).and_then(|p| lemma::read(&p, lemma_words).map(|l| (p, l)));
+    let (program, lemmas) = match read {
+        Ok(both) => both,
+        Err(refusal) => return Asked::Refused(refusal),
+    };
+    match lemmas.get(k) {
+        None => Asked::Refused(Refusal { number: 8, value: k as u64 }),
+        Some(lemma) => match lemma::weigh(&program, lemma) {
+            None => Asked::Refused(Refusal { number: 11, value: k as u64 }),
+            Some(true) => Asked::Accepted,
+            Some(false) => Asked::NotAccepted,
+        },
+    }
+}
+
+/// "A reading view over the finished graph list answers the successor for a node and an action,
+/// which is the payload of that EDGE word, all ones being none." View: 3, 1, 8 node, 8 action, 2.
+pub fn successor(
+    graph: &[u32],
+    nodes: usize,
+    actions: usize,
+    node: usize,
+    action: usize,
+) -> Result<u32, Refusal> {
+    let refuse = |number: u32, value: usize| Err(Refusal { number, value: value as u64 });
+    if nodes > MAX_NODES || actions > MAX_ACTIONS {
+        return refuse(3, 0);
+    }
+    let record = 2 + actions;
+    if graph.len() < nodes * record {
+        return refuse(1, 0);
+    }
+    if node >= nodes {
+        return refuse(8, node);
+    }
+    if action >= actions {
+        return refuse(8, action);
+    }
+    let at = node * record + 2 + action;
+    if kind(graph[at]) != EDGE {
+        return refuse(2, at);
+    }
+    Ok(payload(graph[at]))
+}

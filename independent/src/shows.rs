@@ -1,0 +1,1732 @@
+//! Makes the test records. Where an answer can be worked out by hand from the document, the case
+//! carries it (`hand`), and a unit test compares.
+
+use crate::records::{Record, ASK, JUDGE};
+use crate::words::*;
+
+#[derive(Clone, Debug)]
+pub struct Case {
+    pub name: String,
+    pub record: Record,
+    /// The answer worked out by hand: the line up to ` GRAPH`.
+    pub hand: Option<String>,
+}
+
+// ---------------------------------------------------------------------------------------------
+// Writing programs and lemmas
+
+/// Constant and terms (variable, coefficient).
+pub type RowText = (i32, Vec<(u32, i32)>);
+
+#[derive(Clone, Debug, Default)]
+pub struct ActionText {
+    pub guards: Vec<RowText>,
+    pub sets: Vec<(u32, RowText)>,
+}
+
+#[derive(Clone, Debug, Default)]
+pub struct Text {
+    pub vars: Vec<(i32, i32)>,
+    pub init: Vec<RowText>,
+    pub pred: Vec<RowText>,
+    pub actions: Vec<ActionText>,
+    /// (known-false mask, known-true mask)
+    pub bad: Vec<(u32, u32)>,
+}
+
+pub fn row(constant: i32, terms: &[(u32, i32)]) -> RowText {
+    (constant, terms.to_vec())
+}
+
+/// A row that never holds: with it among a source's rows any lemma of that source is accepted.
+pub fn never() -> RowText {
+    (-1, vec![])
+}
+
+pub fn act(guards: &[RowText], sets: &[(u32, RowText)]) -> ActionText {
+    ActionText { guards: guards.to_vec(), sets: sets.to_vec() }
+}
+
+pub fn var_word(low: i32, high: i32) -> u32 {
+    make(VAR, ((low as u32 & 0x3FFF) << 14) | (high as u32 & 0x3FFF))
+}
+
+pub fn row_word(constant: i32) -> u32 {
+    make(ROW, constant as u32)
+}
+
+pub fn term_word(variable: u32, coefficient: i32) -> u32 {
+    make(TERM, (variable << 24) | (coefficient as u32 & 0xFFFF))
+}
+
+pub fn sets_word(f: u32, t: u32) -> u32 {
+    make(SETS, (f << 14) | t)
+}
+
+pub fn lemma_word(source: u32, goal: u32, index: u32) -> u32 {
+    make(LEMMA, (source << 20) | (goal << 16) | index)
+}
+
+fn put_row(words: &mut Vec<u32>, row: &RowText) {
+    words.push(row_word(row.0));
+    words.extend(row.1.iter().map(|(v, c)| term_word(*v, *c)));
+}
+
+impl Text {
+    pub fn words(&self) -> Vec<u32> {
+        let mut words: Vec<u32> = self.vars.iter().map(|(l, h)| var_word(*l, *h)).collect();
+        words.push(make(INIT, self.init.len() as u32));
+        self.init.iter().for_each(|r| put_row(&mut words, r));
+        words.push(make(PRED, self.pred.len() as u32));
+        self.pred.iter().for_each(|r| put_row(&mut words, r));
+        for action in &self.actions {
+            words.push(make(ACTION, ((action.guards.len() as u32) << 4) | action.sets.len() as u32));
+            action.guards.iter().for_each(|r| put_row(&mut words, r));
+            for (variable, r) in &action.sets {
+                words.push(make(SET, *variable));
+                put_row(&mut words, r);
+            }
+        }
+        words.extend(self.bad.iter().map(|(f, t)| sets_word(*f, *t)));
+        words.push(make(END, 0));
+        words
+    }
+
+    fn source_rows(&self, source: u32) -> usize {
+        if source == START {
+            self.init.len()
+        } else {
+            self.actions[source as usize].guards.len()
+        }
+    }
+
+    /// How many MULT words a lemma needs.
+    pub fn due(&self, source: u32, goal: u32, f: u32, t: u32) -> usize {
+        usize::from(goal != 0) + (f | t).count_ones() as usize + self.source_rows(source)
+    }
+
+    /// A lemma with all multipliers 0 but the last, which is 1: accepted if the source's last row
+    /// is `never`.
+    pub fn forced(&self, source: u32, goal: u32, index: u32, f: u32, t: u32) -> Vec<u32> {
+        let mut multipliers = vec![0; self.due(source, goal, f, t)];
+        *multipliers.last_mut().unwrap() = 1;
+        lemma(source, goal, index, f, t, &multipliers)
+    }
+}
+
+pub fn lemma(source: u32, goal: u32, index: u32, f: u32, t: u32, multipliers: &[u32]) -> Vec<u32> {
+    let mut words = vec![lemma_word(source, goal, index), sets_word(f, t)];
+    words.extend(multipliers.iter().map(|m| make(MULT, *m)));
+    words
+}
+
+/// Splits a lemma list into lemmas, for lists whose lemmas each begin with the only kind 9 words.
+pub fn split_lemmas(words: &[u32]) -> Vec<Vec<u32>> {
+    let mut all: Vec<Vec<u32>> = Vec::new();
+    for word in words {
+        if kind(*word) == LEMMA {
+            all.push(Vec::new());
+        }
+        all.last_mut().expect("a lemma list begins with LEMMA").push(*word);
+    }
+    all
+}
+
+fn without(lemmas: &[Vec<u32>], dropped: usize) -> Vec<u32> {
+    let kept = lemmas.iter().enumerate().filter(|(i, _)| *i != dropped);
+    kept.flat_map(|(_, l)| l.iter().copied()).collect()
+}
+
+fn of_bytes(bytes: &[u8]) -> (Vec<u32>, Vec<u32>) {
+    let words: Vec<u32> =
+        bytes.chunks_exact(4).map(|b| u32::from_le_bytes([b[0], b[1], b[2], b[3]])).collect();
+    let end = words.iter().position(|w| kind(*w) == END).map_or(words.len(), |p| p + 1);
+    (words[..end].to_vec(), words[end..].to_vec())
+}
+
+/// The shows in /work/shared/shows: "the first word of kind 15 ends the logic".
+pub fn show(name: &str) -> (Vec<u32>, Vec<u32>) {
+    of_bytes(match name {
+        "fade" => include_bytes!("../../shows/fade.words"),
+        "house" => include_bytes!("../../shows/house.words"),
+        "bakery" => include_bytes!("../../shows/bakery.words"),
+        "rig8" => include_bytes!("../../shows/rig8.words"),
+        _ => panic!("no such show"),
+    })
+}
+
+// ---------------------------------------------------------------------------------------------
+// The worked shows, typed from the document
+
+pub const FADE: [u32; 16] = [
+    0x100003E8, 0x40000000, 0x50000000, 0x60000011, 0x2FFFFFFB, 0x30000001, 0x70000000, 0x2FFFFFFB,
+    0x30000001, 0x60000011, 0x200003E3, 0x3000FFFF, 0x70000000, 0x20000005, 0x30000001, 0xF0000000,
+];
+
+pub const FADE_LEMMAS: [u32; 16] = [
+    0x90030000, 0x80000000, 0xA0000001, 0xA0000001, 0x90040000, 0x80000000, 0xA0000001, 0xA0000000,
+    0x90130000, 0x80000000, 0xA0000001, 0xA0000000, 0x90140000, 0x80000000, 0xA0000001, 0xA0000001,
+];
+
+/// "**House**: level 0..1000, house 0..1, both 0 at the start. P0 level at least 1, P1 house at
+/// least 1. Actions: 0 if level is 0, house 1; 1 if house is 0, level 500; 2 level 0; 3 house 0.
+/// Forbidden 80000003."
+pub fn house() -> Text {
+    Text {
+        vars: vec![(0, 1000), (0, 1)],
+        init: vec![row(0, &[(0, -1)]), row(0, &[(1, -1)])],
+        pred: vec![row(-1, &[(0, 1)]), row(-1, &[(1, 1)])],
+        actions: vec![
+            act(&[row(0, &[(0, -1)])], &[(1, row(1, &[]))]),
+            act(&[row(0, &[(1, -1)])], &[(0, row(500, &[]))]),
+            act(&[], &[(0, row(0, &[]))]),
+            act(&[], &[(1, row(0, &[]))]),
+        ],
+        bad: vec![(0, 3)],
+    }
+}
+
+/// Lemmas for House, worked out by hand; each has its largest value as a remark.
+pub fn house_lemmas() -> Vec<Vec<u32>> {
+    vec![
+        lemma(START, 2, 0, 0, 0, &[1, 1, 0]), // x-1 + -x = -1
+        lemma(START, 2, 1, 0, 0, &[1, 0, 1]), // h-1 + -h = -1
+        lemma(0, 0, 0, 0, 1, &[1, 1]),        // x-1 + -x = -1
+        lemma(0, 2, 0, 0, 0, &[1, 1]),        // x-1 + -x = -1
+        lemma(0, 1, 1, 0, 0, &[1, 0]),        // -(1-1)-1 = -1
+        lemma(0, 3, 1, 0, 0, &[1, 0]),        // 0-1-1 = -2
+        lemma(0, 4, 1, 0, 0, &[1, 0]),        // 1-1-1 = -1
+        lemma(1, 0, 0, 0, 2, &[1, 1]),        // h-1 + -h = -1
+        lemma(1, 1, 0, 0, 0, &[1, 0]),        // -(500-1)-1 = -500
+        lemma(1, 2, 1, 0, 0, &[1, 1]),        // h-1 + -h = -1
+        lemma(1, 3, 0, 0, 0, &[1, 0]),        // 0-500-1 = -501
+        lemma(1, 4, 0, 0, 0, &[1, 0]),        // 500-1000-1 = -501
+        lemma(2, 2, 0, 0, 0, &[1]),           // 0-1 = -1
+        lemma(2, 1, 1, 0, 2, &[1, 1]),        // -h + h-1 = -1
+        lemma(2, 2, 1, 2, 0, &[1, 1]),        // h-1 + -h = -1
+        lemma(2, 3, 0, 0, 0, &[1]),           // 0-0-1 = -1
+        lemma(2, 4, 0, 0, 0, &[1]),           // 0-1000-1 = -1001
+        lemma(3, 1, 0, 0, 1, &[1, 1]),        // -x + x-1 = -1
+        lemma(3, 2, 0, 1, 0, &[1, 1]),        // x-1 + -x = -1
+        lemma(3, 2, 1, 0, 0, &[1]),           // 0-1 = -1
+        lemma(3, 3, 1, 0, 0, &[1]),           // 0-0-1 = -1
+        lemma(3, 4, 1, 0, 0, &[1]),           // 0-1-1 = -2
+    ]
+}
+
+/// The place of "action 0 failing P0" in a list of House lemmas.
+pub fn house_failing(lemmas: &[Vec<u32>]) -> usize {
+    lemmas.iter().position(|l| l[0] == lemma_word(0, 2, 0)).unwrap()
+}
+
+/// A small program with every part, for faults.
+pub fn demo() -> Text {
+    Text {
+        vars: vec![(0, 10), (-5, 5)],
+        init: vec![row(0, &[(0, -1)])],
+        pred: vec![row(-1, &[(0, 1)]), row(-1, &[(0, 1), (1, 1)])],
+        actions: vec![
+            act(&[row(5, &[(0, -1)]), row(0, &[(1, 1)])], &[(0, row(5, &[(0, 1)]))]),
+            act(&[], &[(0, row(5, &[(1, 1)])), (1, row(-5, &[(0, 1)]))]),
+            act(&[never()], &[]),
+        ],
+        bad: vec![(0, 3), (1, 2)],
+    }
+}
+
+/// Two lemmas for demo: 7 words and 3 words.
+pub fn demo_lemmas() -> Vec<u32> {
+    let mut words = lemma(0, 1, 0, 2, 1, &[1, 0, 0, 0, 0]); // -(x+5-1)-1 = -x-5, at most -5
+    words.extend(lemma(1, 3, 1, 0, 0, &[1])); // -5-(x-5)-1 = -x-1, at most -1
+    words
+}
+
+// ---------------------------------------------------------------------------------------------
+// The book of cases
+
+#[derive(Default)]
+struct Book {
+    cases: Vec<Case>,
+}
+
+impl Book {
+    fn judge_with(&mut self, name: &str, p: &[u32], l: &[u32], graph: u32, path: u32, hand: &str) {
+        let record = Record { call: JUDGE, k: 0, program: p.to_vec(), lemmas: l.to_vec(), graph, path };
+        self.put(name, record, hand);
+    }
+
+    fn judge(&mut self, name: &str, p: &[u32], l: &[u32], hand: &str) {
+        self.judge_with(name, p, l, 9216, 512, hand);
+    }
+
+    fn ask(&mut self, name: &str, p: &[u32], l: &[u32], k: u32, hand: &str) {
+        let record =
+            Record { call: ASK, k, program: p.to_vec(), lemmas: l.to_vec(), graph: 0, path: 0 };
+        self.put(name, record, hand);
+    }
+
+    /// A fault through Judge or through Ask 0, in turn.
+    fn fault(&mut self, name: &str, p: &[u32], l: &[u32], hand: &str) {
+        if self.cases.len() % 2 == 0 {
+            self.judge(&format!("{name}, judge"), p, l, hand);
+        } else {
+            self.ask(&format!("{name}, ask"), p, l, 0, hand);
+        }
+    }
+
+    /// The same fault through Judge and through Ask 0.
+    fn both(&mut self, name: &str, p: &[u32], l: &[u32], hand: &str) {
+        self.judge(&format!("{name}, judge"), p, l, hand);
+        self.ask(&format!("{name}, ask"), p, l, 0, hand);
+    }
+
+    fn put(&mut self, name: &str, record: Record, hand: &str) {
+        let hand = if hand.is_empty() { None } else { Some(hand.to_string()) };
+        self.cases.push(Case { name: name.to_string(), record, hand });
+    }
+}
+
+fn refused(number: u32, value: usize) -> String {
+    format!("REFUSED {number} AT {value}")
+}
+
+pub fn cases() -> Vec<Case> {
+    let mut book = Book::default();
+    worked(&mut book);
+    show_files(&mut book);
+    short_lists(&mut book);
+    program_faults(&mut book);
+    lemma_faults(&mut book);
+    orders(&mut book);
+    many_lemmas(&mut book);
+    asks(&mut book);
+    limits(&mut book);
+    graphs(&mut book);
+    verdicts(&mut book);
+    random(&mut book);
+    book.cases
+}
+
+/// The worked table (a) to (h), Fade and House.
+fn worked(book: &mut Book) {
+    let fade = FADE.to_vec();
+    let list = split_lemmas(&FADE_LEMMAS);
+    book.judge("fade (a)", &fade, &FADE_LEMMAS, "SAFE nodes 1 edges 2");
+    book.judge_with("fade (a), longer lists", &fade, &FADE_LEMMAS, 9300, 600, "SAFE nodes 1 edges 2");
+    let finding = |a: u32, end: &str| format!("RUNOFF node 0 action {a} variable 0 {end} nodes 1 edges 2");
+    book.judge("fade (b), without lemma 0", &fade, &without(&list, 0), &finding(0, "low"));
+    book.judge("fade without lemma 1", &fade, &without(&list, 1), &finding(0, "high"));
+    book.judge("fade without lemma 2", &fade, &without(&list, 2), &finding(1, "low"));
+    book.judge("fade without lemma 3", &fade, &without(&list, 3), &finding(1, "high"));
+    book.judge("fade with no lemmas", &fade, &[], &finding(0, "low"));
+    for k in 0..4 {
+        if k % 3 == 0 {
+            book.ask(&format!("fade, ask {k}"), &fade, &FADE_LEMMAS, k, "ACCEPTED");
+        }
+        let mut zero = FADE_LEMMAS.to_vec();
+        zero[4 * k as usize + 2] = make(MULT, 0);
+        zero[4 * k as usize + 3] = make(MULT, 0);
+        book.ask(&format!("fade (c), lemma {k} all 0"), &fade, &zero, k, "NOT ACCEPTED");
+        let end = if k % 2 == 0 { "low" } else { "high" };
+        book.judge(&format!("fade (c), lemma {k} all 0, judge"), &fade, &zero, &finding(k / 2, end));
+    }
+    book.ask("fade, ask one past the last", &fade, &FADE_LEMMAS, 4, "REFUSED 8 AT 4");
+    book.ask("fade, ask far past", &fade, &FADE_LEMMAS, u32::MAX, "REFUSED 8 AT 4294967295");
+    book.ask("fade, ask of no lemmas", &fade, &[], 0, "REFUSED 8 AT 0");
+    // The lemmas in another order, and each twice: the same graph and verdict.
+    let reversed: Vec<u32> = list.iter().rev().flatten().copied().collect();
+    book.judge("fade, lemmas reversed", &fade, &reversed, "SAFE nodes 1 edges 2");
+    let twice = [FADE_LEMMAS, FADE_LEMMAS].concat();
+    book.judge("fade, lemmas twice", &fade, &twice, "SAFE nodes 1 edges 2");
+
+    let home = house().words();
+    let list = house_lemmas();
+    let full: Vec<u32> = list.concat();
+    book.judge("house, own full lemmas", &home, &full, "SAFE nodes 3 edges 10");
+    book.judge_with("house, own full lemmas, longer", &home, &full, 10000, 513, "SAFE nodes 3 edges 10");
+    book.judge("house (d), no lemmas", &home, &[], "FORBID node 0 bad 0 nodes 1 edges 4");
+    // (e): node 0 {not P0, not P1} goes by 0 to 1 {P1}, by 1 to 2 {P0, not P1}, by 2 and 3 to 0;
+    // 1 to 1, none, 3 {not P0, P1}, 4 {not P1}; 2 to none, 2, 0, 2; 3 to 1, none, 3, 0; 4 to
+    // 1, 2, 0, 4. Node 1 does not contradict 80000003.
+    let e_line = "FORBID node 1 bad 0 nodes 5 edges 17";
+    let e = without(&list, house_failing(&list));
+    book.judge("house (e), own lemmas", &home, &e, e_line);
+    let (file_home, file_lemmas) = show("house");
+    let file_list = split_lemmas(&file_lemmas);
+    let e = without(&file_list, house_failing(&file_list));
+    book.judge("house (e), the show's lemmas", &file_home, &e, e_line);
+    for dropped in (0..list.len()).filter(|d| *d != house_failing(&list) && d % 3 > 0) {
+        book.judge(&format!("house without own lemma {dropped}"), &home, &without(&list, dropped), "");
+    }
+    for k in 0..list.len() as u32 {
+        if k % 7 == 0 {
+            book.ask(&format!("house, ask {k}"), &home, &full, k, "ACCEPTED");
+        }
+    }
+    book.ask("house, ask one past the last", &home, &full, 22, "REFUSED 8 AT 22");
+
+    book.both("(f) empty program", &[], &[], "REFUSED 2 AT 0");
+    let mut p = FADE.to_vec();
+    p[0] = var_word(1000, 1000);
+    book.judge("(g) low equal to high", &p, &[], &finding(0, "low"));
+    p[0] = var_word(1001, 1000);
+    book.fault("(g) low one above high", &p, &[], "REFUSED 4 AT 0");
+    let mut p = FADE.to_vec();
+    p[5] = term_word(0, 1000);
+    book.judge("(h) coefficient 1000", &p, &[], &finding(0, "low"));
+    p[5] = term_word(0, 1001);
+    book.fault("(h) coefficient 1001", &p, &[], "REFUSED 4 AT 5");
+    p[5] = term_word(0, -1000);
+    book.judge("(h) coefficient -1000", &p, &[], &finding(0, "low"));
+    p[5] = term_word(0, -1001);
+    book.judge("(h) coefficient -1001", &p, &[], "REFUSED 4 AT 5");
+}
+
+/// Every show of /work/shared/shows.
+fn show_files(book: &mut Book) {
+    for (name, line) in [
+        ("fade", "SAFE nodes 1 edges 2"),
+        ("house", "SAFE nodes 3 edges 10"),
+        ("bakery", "SAFE nodes 9 edges 14"),
+        ("rig8", "SAFE nodes 500 edges 5600"),
+    ] {
+        let (p, l) = show(name);
+        for (graph, path) in [(9216, 512), (9217, 513), (12000, 1000)] {
+            if graph == 9217 && name != "rig8" {
+                continue;
+            }
+            book.judge_with(&format!("show {name} {graph}/{path}"), &p, &l, graph, path, line);
+        }
+        book.judge_with(&format!("show {name} 9215/512"), &p, &l, 9215, 512, "REFUSED 1 AT 0");
+        if name != "rig8" {
+            book.judge(&format!("show {name}, no lemmas"), &p, &[], "");
+            book.judge_with(&format!("show {name} 9216/511"), &p, &l, 9216, 511, "REFUSED 1 AT 1");
+            book.judge_with(&format!("show {name} 0/0"), &p, &l, 0, 0, "REFUSED 1 AT 0");
+        }
+        let list = split_lemmas(&l);
+        let last = list.len() as u32 - 1;
+        book.ask(&format!("show {name}, ask first"), &p, &l, 0, "ACCEPTED");
+        book.ask(&format!("show {name}, ask last"), &p, &l, last, "");
+        book.ask(&format!("show {name}, ask past"), &p, &l, last + 1, &refused(8, list.len()));
+    }
+    let (p, l) = show("bakery");
+    let list = split_lemmas(&l);
+    for dropped in [0, 9, 34, 47, 58, 99, 113] {
+        book.judge(&format!("bakery without lemma {dropped}"), &p, &without(&list, dropped), "");
+    }
+    let (p, l) = show("rig8");
+    let list = split_lemmas(&l);
+    for dropped in [0, 14, 270, 277] {
+        book.judge(&format!("rig8 without lemma {dropped}"), &p, &without(&list, dropped), "");
+    }
+    // The logic with the lemmas of another show.
+    book.both("rig8 logic, bakery lemmas", &p, &show("bakery").1, "");
+    book.fault("house logic, fade lemmas", &house().words(), &FADE_LEMMAS, "REFUSED 5 AT 0");
+}
+
+/// "1 graph, 1 path" before everything else.
+fn short_lists(book: &mut Book) {
+    let fade = FADE.to_vec();
+    let bad_lemma = vec![make(MULT, 0)];
+    let many = fade_many(513);
+    let (wide, wide_lemmas) = subsets(10, 10);
+    let faults: [(&str, &[u32], &[u32]); 5] = [
+        ("good", &fade, &FADE_LEMMAS),
+        ("empty program", &[], &FADE_LEMMAS),
+        ("bad lemma", &fade, &bad_lemma),
+        ("513 lemmas", &fade, &many),
+        ("513 nodes", &wide, &wide_lemmas),
+    ];
+    for (number, (name, p, l)) in faults.into_iter().enumerate() {
+        for (graph, path, line) in [
+            (9215, 512, "REFUSED 1 AT 0"),
+            (9216, 511, "REFUSED 1 AT 1"),
+            (9215, 511, "REFUSED 1 AT 0"),
+            (0, 0, "REFUSED 1 AT 0"),
+            (0, 512, "REFUSED 1 AT 0"),
+            (9216, 0, "REFUSED 1 AT 1"),
+            (1, 1, "REFUSED 1 AT 0"),
+            (9300, 511, "REFUSED 1 AT 1"),
+            (9215, 600, "REFUSED 1 AT 0"),
+        ] {
+            // All lengths with the good show, most with the bad lemma, two with each other fault.
+            if number == 0 || number == 2 && path > 1 || (graph, path) == (9215, 512) || (graph, path) == (9216, 511) {
+                book.judge_with(&format!("short {graph}/{path}, {name}"), p, l, graph, path, line);
+            }
+        }
+    }
+}
+
+/// Refusals 2, 3 and 4.
+fn program_faults(book: &mut Book) {
+    let good = demo().words();
+    book.judge("demo, no lemmas", &good, &[], "FORBID node 0 bad 0 nodes 1 edges 3");
+    book.judge("demo, two lemmas", &good, &demo_lemmas(), "");
+    for cut in (0..good.len()).filter(|c| c % 2 == 0) {
+        let hand = refused(2, cut);
+        if cut % 3 > 0 {
+            book.judge(&format!("demo cut to {cut}"), &good[..cut], &[], &hand);
+        } else {
+            book.ask(&format!("demo cut to {cut}"), &good[..cut], &[], 0, &hand);
+        }
+    }
+    // Words replaced by one of a kind that is wrong everywhere.
+    for at in (1..good.len()).step_by(4) {
+        let mut p = good.clone();
+        p[at] = make([0, 9, 10, 11, 12, 13, 14][at % 7], p[at]);
+        book.judge(&format!("demo, word {at} of wrong kind"), &p, &[], &refused(2, at));
+    }
+    // Positions in demo: 0,1 VAR; 2 INIT 3 ROW 4 TERM; 5 PRED 6 ROW 7 TERM 8 ROW 9 TERM 10 TERM;
+    // 11 ACTION 12 ROW 13 TERM 14 ROW 15 TERM 16 SET 17 ROW 18 TERM; 19 ACTION 20 SET 21 ROW
+    // 22 TERM 23 SET 24 ROW 25 TERM; 26 ACTION 27 ROW; 28 SETS 29 SETS; 30 END.
+    for (name, at, word, number) in [
+        ("INIT for VAR", 0, make(INIT, 0), 2),
+        ("END first", 0, make(END, 0), 2),
+        ("low above high", 1, var_word(6, 5), 4),
+        ("PRED for INIT", 2, make(PRED, 1), 2),
+        ("INIT 9", 2, make(INIT, 9), 3),
+        ("INIT with the highest bit", 2, make(INIT, 0x800_0000), 3),
+        ("INIT one too many", 2, make(INIT, 2), 0),
+        ("INIT one too few", 2, make(INIT, 0), 0),
+        ("constant 1,000,001", 3, row_word(1_000_001), 4),
+        ("constant -1,000,001", 3, row_word(-1_000_001), 4),
+        ("constant lowest of 28 bits", 3, make(ROW, 0x800_0000), 4),
+        ("TERM bit 16", 4, term_word(0, -1) | 1 << 16, 2),
+        ("TERM bit 23", 4, term_word(0, -1) | 1 << 23, 2),
+        ("coefficient 0", 4, term_word(0, 0), 4),
+        ("coefficient -32768", 4, term_word(0, -32768), 4),
+        ("variable 2 of 2", 4, term_word(2, 1), 4),
+        ("variable 15", 4, term_word(15, 1), 4),
+        ("PRED 15", 5, make(PRED, 15), 3),
+        ("INIT for PRED", 5, make(INIT, 2), 2),
+        ("VAR after INIT", 5, var_word(0, 1), 2),
+        ("TERM for ROW", 6, term_word(0, 1), 2),
+        ("equal variables", 10, term_word(0, 1), 4),
+        ("falling variables", 9, term_word(1, 1), 0),
+        ("ACTION bit 8", 11, make(ACTION, 0x121), 2),
+        ("ACTION bit 8 and 9 guards", 11, make(ACTION, 0x191), 2),
+        ("ACTION 9 guards", 11, make(ACTION, 0x91), 3),
+        ("ACTION 9 assignments", 11, make(ACTION, 0x29), 3),
+        ("ACTION 15, 15", 11, make(ACTION, 0xFF), 3),
+        ("ACTION 8 guards, rows missing", 11, make(ACTION, 0x81), 0),
+        ("ACTION 3 assignments, SET due", 11, make(ACTION, 0x23), 0),
+        ("SETS where an action may begin", 11, sets_word(0, 3), 0),
+        ("SET for a guard ROW", 14, make(SET, 0), 2),
+        ("SET variable 2 of 2", 16, make(SET, 2), 4),
+        ("SET variable 16", 16, make(SET, 16), 4),
+        ("SET not rising", 23, make(SET, 0), 4),
+        ("ROW for SET", 16, row_word(0), 2),
+        ("ROW too many", 19, row_word(0), 2),
+        ("SETS unknown true predicate", 28, sets_word(0, 4), 4),
+        ("SETS unknown false predicate", 28, sets_word(4, 0), 4),
+        ("SETS highest bits", 29, sets_word(0x2000, 0x2000), 4),
+        ("SETS in both", 29, sets_word(1, 1), 4),
+        ("ACTION after SETS", 29, make(ACTION, 0), 2),
+        ("SET after SETS", 29, make(SET, 0), 2),
+        ("END with payload 1", 30, make(END, 1), 2),
+        ("END early", 19, make(END, 0), 0),
+    ] {
+        let mut p = good.clone();
+        p[at] = word;
+        let hand = if number == 0 { String::new() } else { refused(number, at) };
+        if number == 0 || at % 2 == 1 {
+            book.judge(&format!("demo, {name}"), &p, &[], &hand);
+        } else {
+            book.ask(&format!("demo, {name}"), &p, &demo_lemmas(), 0, &hand);
+        }
+    }
+    for extra in [make(END, 0), make(LEMMA, 0), make(SETS, 0), 0] {
+        let mut p = good.clone();
+        p.push(extra);
+        book.judge(&format!("demo, {extra:08X} after END"), &p, &[], "REFUSED 2 AT 31");
+    }
+    let mut p = good.clone();
+    p[30] = make(END, 5);
+    p.push(0);
+    book.judge("demo, END with payload and a word after it", &p, &[], "REFUSED 2 AT 30");
+
+    // One too many.
+    let plain = |vars: usize| Text { vars: vec![(0, 1); vars], ..Text::default() };
+    book.judge("8 VAR", &plain(8).words(), &[], "SAFE nodes 1 edges 0");
+    book.judge("9 VAR", &plain(9).words(), &[], "REFUSED 3 AT 8");
+    let mut p = plain(9).words();
+    p[8] = var_word(1, 0);
+    book.judge("ninth VAR with low above high", &p, &[], "REFUSED 3 AT 8");
+    p[3] = var_word(1, 0);
+    book.judge("9 VAR, the fourth low above high", &p, &[], "REFUSED 4 AT 3");
+    let mut t = plain(1);
+    t.actions = vec![ActionText::default(); 16];
+    book.judge("16 ACTION", &t.words(), &[], "SAFE nodes 1 edges 16");
+    t.actions.push(ActionText::default());
+    book.judge("17 ACTION", &t.words(), &[], "REFUSED 3 AT 19");
+    let mut p = t.words();
+    p[19] = make(ACTION, 0x100);
+    book.judge("17th ACTION with an unnamed bit", &p, &[], "REFUSED 2 AT 19");
+    p[19] = make(ACTION, 0x99);
+    book.judge("17th ACTION with counts too high", &p, &[], "REFUSED 3 AT 19");
+    let mut t = plain(1);
+    t.actions = vec![ActionText::default(); 16];
+    t.bad = vec![(0, 0)];
+    let mut p = t.words();
+    p.insert(20, make(ACTION, 0));
+    book.judge("ACTION after SETS as the 17th", &p, &[], "REFUSED 2 AT 20");
+    let mut t = plain(1);
+    t.pred = vec![row(0, &[])];
+    t.bad = vec![(0, 1); 8];
+    book.judge("8 SETS", &t.words(), &[], "FORBID node 0 bad 0 nodes 1 edges 0");
+    t.bad.push((0, 1));
+    book.judge("9 SETS", &t.words(), &[], "REFUSED 3 AT 12");
+    t.bad[8] = (2, 2);
+    book.judge("ninth SETS with unknown predicate in both", &t.words(), &[], "REFUSED 3 AT 12");
+    t.bad[7] = (2, 2);
+    book.judge("eighth SETS with unknown predicate", &t.words(), &[], "REFUSED 4 AT 11");
+    let mut t = plain(8);
+    t.init = vec![row(0, &(0..8).map(|v| (v, 1)).collect::<Vec<_>>())];
+    let mut p = t.words();
+    book.judge("8 TERM", &p, &[], "SAFE nodes 1 edges 0");
+    p.insert(18, term_word(7, 1));
+    book.judge("ninth TERM", &p, &[], "REFUSED 4 AT 18");
+    let mut t = plain(1);
+    t.init = vec![row(1_000_000, &[]), row(-1_000_000, &[])];
+    book.judge("constants at their limits", &t.words(), &[], "SAFE nodes 1 edges 0");
+    t.vars = vec![(-8192, 8191), (-8192, -8192), (8191, 8191)];
+    book.judge("ends at their limits", &t.words(), &[], "SAFE nodes 1 edges 0");
+    let mut t = plain(1);
+    t.pred = vec![row(0, &[]); 14];
+    t.bad = vec![(0x1555, 0x2AAA)];
+    book.judge("14 predicates", &t.words(), &[], "FORBID node 0 bad 0 nodes 1 edges 0");
+    t.pred.push(row(0, &[]));
+    book.judge("15 predicates", &t.words(), &[], "REFUSED 3 AT 2");
+    let mut t = plain(1);
+    t.pred = vec![];
+    t.bad = vec![(0, 1)];
+    book.judge("SETS with no predicates at all", &t.words(), &[], "REFUSED 4 AT 3");
+    t.bad = vec![(0, 0)];
+    book.judge("empty combination, no predicates", &t.words(), &[], "FORBID node 0 bad 0 nodes 1 edges 0");
+    // Two assignments claimed in a program of one variable.
+    let mut t = plain(1);
+    t.actions = vec![act(&[], &[(0, row(0, &[])), (1, row(0, &[]))])];
+    book.judge("second SET of one variable", &t.words(), &[], "REFUSED 4 AT 6");
+}
+
+/// Refusal 5 at every word of a list of two lemmas.
+fn lemma_faults(book: &mut Book) {
+    let p = demo().words();
+    let good = demo_lemmas();
+    book.ask("demo lemmas, ask 0", &p, &good, 0, "ACCEPTED");
+    book.ask("demo lemmas, ask 1", &p, &good, 1, "ACCEPTED");
+    book.ask("demo lemmas, ask 2", &p, &good, 2, "REFUSED 8 AT 2");
+    for cut in 0..good.len() {
+        let whole = cut == 0 || cut == 7;
+        let judged = if whole { String::new() } else { refused(5, cut) };
+        if whole || cut % 2 == 0 {
+            book.judge(&format!("demo lemmas cut to {cut}"), &p, &good[..cut], &judged);
+        }
+        if !whole && cut % 2 == 0 {
+            continue;
+        }
+        let asked = match cut {
+            0 => refused(8, 0),
+            7 => "ACCEPTED".to_string(),
+            _ => refused(5, cut),
+        };
+        book.ask(&format!("demo lemmas cut to {cut}, ask"), &p, &good[..cut], 0, &asked);
+    }
+    // Another kind at each word.
+    for at in 0..good.len() {
+        for other in [0, 8, 9, 10, 15] {
+            if other == kind(good[at]) || (at + other as usize) % 3 > 0 && other != 9 {
+                continue;
+            }
+            let mut l = good.clone();
+            l[at] = make(other, good[at]);
+            if other % 2 == 0 {
+                book.judge(&format!("demo lemmas, word {at} kind {other}"), &p, &l, &refused(5, at));
+            } else {
+                book.ask(&format!("demo lemmas, word {at} kind {other}"), &p, &l, 0, &refused(5, at));
+            }
+        }
+    }
+    // What a LEMMA word may not say; at the first lemma and at the second.
+    let words: Vec<(&str, u32)> = vec![
+        ("source 3 of 3", lemma_word(3, 0, 0)),
+        ("source 16", lemma_word(16, 0, 0)),
+        ("source 254", lemma_word(254, 0, 0)),
+        ("source 254 goal 1", lemma_word(254, 1, 0)),
+        ("goal 5", lemma_word(0, 5, 0)),
+        ("goal 15", lemma_word(0, 15, 0)),
+        ("goal 0 index 1", lemma_word(0, 0, 1)),
+        ("goal 0 index 255", lemma_word(START, 0, 255)),
+        ("goal 1 predicate 2 of 2", lemma_word(0, 1, 2)),
+        ("goal 2 predicate 2 of 2", lemma_word(0, 2, 2)),
+        ("goal 1 predicate 255", lemma_word(0, 1, 255)),
+        ("goal 3 of the start", lemma_word(START, 3, 0)),
+        ("goal 4 of the start", lemma_word(START, 4, 1)),
+        ("goal 3 of a variable not set", lemma_word(0, 3, 1)),
+        ("goal 4 of a variable not set", lemma_word(0, 4, 1)),
+        ("goal 3 of an action that sets none", lemma_word(2, 3, 0)),
+        ("goal 3 of an unknown variable", lemma_word(1, 3, 2)),
+        ("goal 4 of variable 255", lemma_word(1, 4, 255)),
+        ("bit 8", lemma_word(0, 1, 0x100)),
+        ("bit 15", lemma_word(0, 1, 0x8000)),
+    ];
+    for (number, (name, word)) in words.iter().enumerate() {
+        for at in [0, 7] {
+            // In turn at the first lemma and at the second.
+            if (number + at) % 2 == 0 {
+                continue;
+            }
+            let mut l = good.clone();
+            l[at] = *word;
+            if number % 4 < 2 {
+                book.judge(&format!("lemma word {at}, {name}"), &p, &l, &refused(5, at));
+            } else {
+                book.ask(&format!("lemma word {at}, {name}"), &p, &l, 0, &refused(5, at));
+            }
+        }
+    }
+    // A bad LEMMA word that is the whole list: the word is seen before the missing one.
+    book.fault("bad LEMMA word alone", &p, &[lemma_word(254, 0, 0)], "REFUSED 5 AT 0");
+    book.fault("good LEMMA word alone", &p, &[lemma_word(0, 0, 0)], "REFUSED 5 AT 1");
+    // SETS.
+    for (name, at, word) in [
+        ("unknown true premise", 1, sets_word(0, 4)),
+        ("unknown false premise", 1, sets_word(4, 0)),
+        ("premise 13", 1, sets_word(0, 0x2000)),
+        ("premise in both", 1, sets_word(1, 1)),
+        ("premise in both, second lemma", 8, sets_word(2, 2)),
+        ("unknown premise, second lemma", 8, sets_word(0x2000, 0)),
+    ] {
+        let mut l = good.clone();
+        l[at] = word;
+        book.fault(&format!("lemma SETS, {name}"), &p, &l, &refused(5, at));
+    }
+    // MULT.
+    for at in [2, 3, 4, 5, 6, 9] {
+        for (name, value) in [("65,536", 65_536), ("bit 27", 0x800_0000)] {
+            if at % 2 == 0 && value != 65_536 {
+                continue;
+            }
+            let mut l = good.clone();
+            l[at] = make(MULT, value);
+            if at % 2 == 0 {
+                book.judge(&format!("MULT {at} {name}"), &p, &l, &refused(5, at));
+            } else {
+                book.ask(&format!("MULT {at} {name}"), &p, &l, 1, &refused(5, at));
+            }
+        }
+        let mut l = good.clone();
+        l[at] = make(MULT, 65_535);
+        if at % 4 > 0 {
+            book.ask(&format!("MULT {at} 65,535"), &p, &l, u32::from(at == 9), "");
+        }
+        let mut l = good.clone();
+        l.remove(at);
+        let hand = if at == 9 { refused(5, 9) } else { refused(5, 6) };
+        book.judge(&format!("MULT {at} missing"), &p, &l, &hand);
+    }
+    let mut l = good.clone();
+    l.insert(7, make(MULT, 0));
+    book.fault("MULT too many after the first lemma", &p, &l, "REFUSED 5 AT 7");
+    let mut l = good.clone();
+    l.push(make(MULT, 1));
+    book.both("MULT too many at the end", &p, &l, "REFUSED 5 AT 10");
+    let mut l = good.clone();
+    l.push(make(END, 0));
+    book.fault("END after the lemmas", &p, &l, "REFUSED 5 AT 10");
+    let l = lemma(0, 0, 0, 0, 0, &[1, 1, 1]);
+    book.fault("goal 0 with a MULT for a goal", &p, &l, "REFUSED 5 AT 4");
+    let l = lemma(1, 1, 0, 0, 0, &[]);
+    book.fault("goal 1 with no MULT for the goal", &p, &l, "REFUSED 5 AT 2");
+    let l = lemma(START, 0, 0, 0, 1, &[1, 1]);
+    book.both("start with a true premise", &p, &l, "REFUSED 5 AT 1");
+    let l = lemma(START, 1, 0, 2, 0, &[1, 1, 1]);
+    book.fault("start with a false premise", &p, &l, "REFUSED 5 AT 1");
+    // "A lemma may have no MULT at all": well formed, not accepted.
+    let l = lemma(1, 0, 0, 0, 0, &[]);
+    book.ask("no MULT at all", &p, &l, 0, "NOT ACCEPTED");
+    book.ask("no MULT at all, twice", &p, &[l.clone(), l].concat(), 1, "NOT ACCEPTED");
+    let t = Text { vars: vec![(0, 0)], actions: vec![ActionText::default()], ..Text::default() };
+    let l = lemma(START, 0, 0, 0, 0, &[]);
+    book.judge("no MULT at all, start", &t.words(), &l, "SAFE nodes 1 edges 1");
+    book.fault("goal 1 with no predicates", &t.words(), &lemma(0, 1, 0, 0, 0, &[0]), "REFUSED 5 AT 0");
+    book.fault("premise with no predicates", &t.words(), &lemma(0, 0, 0, 0, 1, &[0]), "REFUSED 5 AT 1");
+    let t = Text { vars: vec![(0, 0)], ..Text::default() };
+    book.fault("source 0 with no actions", &t.words(), &lemma(0, 0, 0, 0, 0, &[]), "REFUSED 5 AT 0");
+    // 16 actions: 15 is the last source, 16 and 253 are none.
+    let t = Text { vars: vec![(0, 0)], actions: vec![act(&[never()], &[]); 16], ..Text::default() };
+    book.ask("source 15 of 16", &t.words(), &t.forced(15, 0, 0, 0, 0), 0, "ACCEPTED");
+    let l = lemma(16, 0, 0, 0, 0, &[1]);
+    book.ask("source 16 of 16", &t.words(), &l, 0, "REFUSED 5 AT 0");
+    let l = lemma(253, 0, 0, 0, 0, &[1]);
+    book.ask("source 253 of 16", &t.words(), &l, 0, "REFUSED 5 AT 0");
+}
+
+/// A Fade lemma list of this many lemmas (4 words each), the four in turn.
+fn fade_many(count: usize) -> Vec<u32> {
+    FADE_LEMMAS.iter().copied().cycle().take(4 * count).collect()
+}
+
+/// Faults in the order of the calls.
+fn orders(book: &mut Book) {
+    let good = demo().words();
+    let lemmas = demo_lemmas();
+    let mut bad_lemmas = lemmas.clone();
+    bad_lemmas[4] = make(MULT, 65_536);
+    let mut bad_program = good.clone();
+    bad_program[10] = term_word(0, 1);
+    book.both("program 4 and lemma 5", &bad_program, &bad_lemmas, "REFUSED 4 AT 10");
+    bad_program[20] = make(SET, 99);
+    bad_program[30] = make(END, 1);
+    book.fault("program 4, 4 and 2", &bad_program, &lemmas, "REFUSED 4 AT 10");
+    bad_program[2] = make(INIT, 12);
+    book.fault("program 3, then others", &bad_program, &bad_lemmas, "REFUSED 3 AT 2");
+    bad_program[1] = 0;
+    book.fault("program 2, then others", &bad_program, &bad_lemmas, "REFUSED 2 AT 1");
+    // At one word: 2 before 3 before 4.
+    let mut p = good.clone();
+    p[11] = make(ACTION, 0x1FF);
+    book.judge("2 before 3 at one word", &p, &[], "REFUSED 2 AT 11");
+    let mut p = good.clone();
+    p[9] = term_word(0, 0) | 1 << 17;
+    book.judge("2 before 4 at one word", &p, &[], "REFUSED 2 AT 9");
+    // Lemmas before the number asked for; the whole list before k.
+    book.ask("lemma 5 before 8", &good, &bad_lemmas, 99, "REFUSED 5 AT 4");
+    book.ask("lemma 5 behind a good lemma 0", &good, &[lemmas.clone(), vec![0]].concat(), 0, "REFUSED 5 AT 10");
+    book.ask("program before 8", &good[..7], &lemmas, 99, "REFUSED 2 AT 7");
+    book.ask("program before lemmas before 8", &good[..7], &bad_lemmas, 99, "REFUSED 2 AT 7");
+    // 5 and 6 by the first bad word.
+    let fade = FADE.to_vec();
+    let mut many = fade_many(513);
+    many[2047] = make(MULT, 65_536);
+    book.ask("5 in the 512th lemma before 6", &fade, &many, 0, "REFUSED 5 AT 2047");
+    let mut many = fade_many(514);
+    many[2055] = 0;
+    book.ask("6 before a later 5", &fade, &many, 0, "REFUSED 6 AT 2048");
+    book.ask("6 before 8", &fade, &fade_many(513), 600, "REFUSED 6 AT 2048");
+    // 5 and 6 before 7.
+    let (p, mut l) = subsets(10, 10);
+    let words = l.len();
+    book.judge("7 with good lemmas", &p, &l, "REFUSED 7 AT 512");
+    l.push(0);
+    book.judge("5 before 7", &p, &l, &refused(5, words));
+    l.pop();
+    let count = split_lemmas(&l).len();
+    for _ in count..513 {
+        l.extend(lemma(0, 0, 0, 0, 0, &[0]));
+    }
+    let at = l.len() - 3;
+    book.judge("6 before 7", &p, &l, &refused(6, at));
+    l.truncate(at);
+    book.judge("7 with 512 lemmas", &p, &l, "REFUSED 7 AT 512");
+    // 7 before a finding at node 0: an empty combination.
+    let (mut t, l) = subsets_text(10, 10);
+    t.bad = vec![(0, 0)];
+    book.judge("7 before a finding", &t.words(), &l, "REFUSED 7 AT 512");
+}
+
+/// 512 lemmas and more.
+fn many_lemmas(book: &mut Book) {
+    let fade = FADE.to_vec();
+    let most = fade_many(512);
+    book.judge("512 lemmas", &fade, &most, "SAFE nodes 1 edges 2");
+    book.ask("512 lemmas, ask 511", &fade, &most, 511, "ACCEPTED");
+    book.ask("512 lemmas, ask 512", &fade, &most, 512, "REFUSED 8 AT 512");
+    book.judge("513 lemmas", &fade, &fade_many(513), "REFUSED 6 AT 2048");
+    // The smallest lemmas: 2 words, 512 of them.
+    let t = Text { vars: vec![(0, 0)], actions: vec![ActionText::default()], ..Text::default() };
+    let small: Vec<u32> = lemma(0, 0, 0, 0, 0, &[]).repeat(512);
+    book.judge("512 lemmas of two words", &t.words(), &small, "SAFE nodes 1 edges 1");
+    book.ask("512 lemmas of two words, ask 511", &t.words(), &small, 511, "NOT ACCEPTED");
+    for (name, word, number) in [
+        ("good", lemma_word(0, 0, 0), 6),
+        ("payload 0", make(LEMMA, 0), 6),
+        ("all ones", make(LEMMA, PAYLOAD), 6),
+        ("source 254", lemma_word(254, 9, 9), 6),
+        ("MULT", make(MULT, 0), 5),
+        ("SETS", make(SETS, 0), 5),
+        ("END", make(END, 0), 5),
+        ("0", 0, 5),
+    ] {
+        let mut l = small.clone();
+        l.push(word);
+        book.judge(&format!("after 512 lemmas, {name}"), &t.words(), &l, &refused(number, 1024));
+    }
+    let mut l = small.clone();
+    l[1022] = make(LEMMA, PAYLOAD);
+    book.ask("512th lemma bad", &t.words(), &l, 0, "REFUSED 5 AT 1022");
+    l.truncate(1023);
+    l[1022] = lemma_word(0, 0, 0);
+    book.ask("512th lemma cut", &t.words(), &l, 0, "REFUSED 5 AT 1023");
+}
+
+/// Each goal true and false, start and action sources; the traps.
+fn asks(book: &mut Book) {
+    let t = Text {
+        vars: vec![(0, 10), (-5, 5)],
+        init: vec![row(-3, &[(0, 1)]), row(7, &[(0, -1)])], // 3 <= x <= 7
+        pred: vec![
+            row(-3, &[(0, 1)]),          // P0 x >= 3
+            row(-8, &[(0, 1)]),          // P1 x >= 8
+            row(0, &[(1, 1)]),           // P2 y >= 0
+            row(0, &[(0, 1), (1, -1)]),  // P3 x >= y
+            row(-5, &[(0, -1), (1, 1)]), // P4 y >= x + 5
+            row(-5, &[(0, 1)]),          // P5 x >= 5
+            row(5, &[(0, -1)]),          // P6 x <= 5
+        ],
+        actions: vec![
+            // 0: x -= 5 if x >= 5
+            act(&[row(-5, &[(0, 1)])], &[(0, row(-5, &[(0, 1)]))]),
+            // 1: x += 5 if x <= 5
+            act(&[row(5, &[(0, -1)])], &[(0, row(5, &[(0, 1)]))]),
+            // 2: x, y := y + 5, x - 5 at once
+            act(&[], &[(0, row(5, &[(1, 1)])), (1, row(-5, &[(0, 1)]))]),
+            // 3: x := 2x - 3
+            act(&[], &[(0, row(-3, &[(0, 2)]))]),
+            // 4: if x >= 6 and x <= 5, nothing
+            act(&[row(-6, &[(0, 1)]), row(5, &[(0, -1)])], &[]),
+            // 5: y := -y
+            act(&[], &[(1, row(0, &[(1, -1)]))]),
+        ],
+        bad: vec![],
+    };
+    let p = t.words();
+    let yes = "ACCEPTED";
+    let no = "NOT ACCEPTED";
+    let list: Vec<(&str, Vec<u32>, &str)> = vec![
+        // goal 0
+        ("action 4 cannot happen", lemma(4, 0, 0, 0, 0, &[1, 1]), yes),
+        ("action 4, one row only", lemma(4, 0, 0, 0, 0, &[1, 0]), no),
+        ("action 4, other row only", lemma(4, 0, 0, 0, 0, &[0, 1]), no),
+        ("action 4, 2 and 3", lemma(4, 0, 0, 0, 0, &[2, 3]), no), // 2x-12 + 15-3x = 3-x, low end: 3
+        ("action 0 can happen", lemma(0, 0, 0, 0, 0, &[1]), no),
+        ("action 0 not where P5 fails", lemma(0, 0, 0, 1 << 5, 0, &[1, 1]), yes), // 4-x + x-5 = -1
+        ("action 0 where P6 holds: x = 5 is left", lemma(0, 0, 0, 0, 1 << 6, &[1, 1]), no), // 5-x + x-5 = 0
+        ("P5 and P6 are not opposed", lemma(2, 0, 0, 0, 0x60, &[1, 1]), no), // 0
+        ("P5 fails and P6 fails are opposed", lemma(2, 0, 0, 0x60, 0, &[1, 1]), yes), // 4-x + x-6 = -2
+        ("start can happen", lemma(START, 0, 0, 0, 0, &[1, 1]), no), // 4
+        // goals 1 and 2 of the start
+        ("start P0", lemma(START, 1, 0, 0, 0, &[1, 1, 0]), yes), // 2-x + x-3 = -1
+        ("start P0, wrong row", lemma(START, 1, 0, 0, 0, &[1, 0, 1]), no),
+        ("start not P1", lemma(START, 2, 1, 0, 0, &[1, 0, 1]), yes), // x-8 + 7-x = -1
+        ("start not P0", lemma(START, 2, 0, 0, 0, &[1, 0, 1]), no),  // x-3 + 7-x = 4
+        ("start P2", lemma(START, 1, 2, 0, 0, &[1, 0, 0]), no),      // -y-1, at most 4
+        ("start not P4: y >= x + 5 and x >= 3", lemma(START, 2, 4, 0, 0, &[1, 1, 0]), yes), // y-8 at most -3
+        // goals 1 and 2 of actions
+        ("action 1 gives P0", lemma(1, 1, 0, 0, 0, &[1, 0]), yes), // -(x+2)-1, at most -3
+        ("action 0 gives P0", lemma(0, 1, 0, 0, 0, &[1, 1]), no),  // 7-x + x-5 = 2
+        ("action 0 gives P0 from P1", lemma(0, 1, 0, 0, 2, &[1, 1, 0]), yes), // 7-x + x-8 = -1
+        ("action 0 gives not P1", lemma(0, 2, 1, 0, 0, &[1, 0]), yes), // x-13 at most -3
+        ("action 1 gives not P1", lemma(1, 2, 1, 0, 0, &[1, 1]), no),  // x-3 + 5-x = 2
+        ("action 1 gives not P1 where P0 fails", lemma(1, 2, 1, 1, 0, &[1, 1, 0]), yes), // x-3 + 2-x = -1
+        ("action 1 gives P0, multipliers 0", lemma(1, 1, 0, 0, 0, &[0, 0]), no),
+        // goals 3 and 4
+        ("action 0 not below", lemma(0, 3, 0, 0, 0, &[1, 1]), yes), // 4-x + x-5 = -1
+        ("action 0 not below without the guard", lemma(0, 3, 0, 0, 0, &[1, 0]), no), // 4-x, low end: 4
+        ("action 0 not above", lemma(0, 4, 0, 0, 0, &[1, 0]), yes), // x-16, at most -6
+        ("action 1 not above", lemma(1, 4, 0, 0, 0, &[1, 1]), yes), // x-6 + 5-x = -1
+        ("action 1 not above without the guard", lemma(1, 4, 0, 0, 0, &[1, 0]), no), // x-6, high end: 4
+        ("action 3 not below", lemma(3, 3, 0, 0, 0, &[1]), no),      // 2-2x, low end: 2
+        ("action 3 not above", lemma(3, 4, 0, 0, 0, &[1]), no),      // 2x-14, high end: 6
+        ("action 3 not below from P0", lemma(3, 3, 0, 0, 1, &[1, 2]), yes), // 2-2x + 2x-6 = -4
+        ("action 3 not below from P0, 1 and 1", lemma(3, 3, 0, 0, 1, &[1, 1]), yes), // -x-1 at most -1
+        ("action 3 not above where P5 fails", lemma(3, 4, 0, 1 << 5, 0, &[1, 2]), yes), // 2x-14 + 8-2x = -6
+        ("action 3 not above where P5 fails, 1 and 1", lemma(3, 4, 0, 1 << 5, 0, &[1, 1]), no), // x-10, at most 0
+        ("action 2 x not below", lemma(2, 3, 0, 0, 0, &[1]), yes), // -y-6, low end -5: -1
+        ("action 2 x not above", lemma(2, 4, 0, 0, 0, &[1]), yes), // y-6, at most -1
+        ("action 2 y not below", lemma(2, 3, 1, 0, 0, &[1]), yes), // -x-1
+        ("action 2 y not above", lemma(2, 4, 1, 0, 0, &[1]), yes), // x-11
+        ("action 5 y not below", lemma(5, 3, 1, 0, 0, &[1]), yes), // -5+y-1, at most -1
+        ("action 5 y not above", lemma(5, 4, 1, 0, 0, &[1]), yes), // -y-6, at most -1
+        // at once: x - y becomes (y + 5) - (x - 5) = 10 - x + y
+        ("action 2 at once, P3 afterwards", lemma(2, 1, 3, 0, 0, &[1]), no), // -(10-x+y)-1 = x-y-11: 4
+        ("action 2 at once, P3 where P5 fails", lemma(2, 1, 3, 1 << 5, 0, &[1, 1]), yes), // -y-7: -2
+        ("action 2 at once, not P4 where P5 fails", lemma(2, 2, 4, 1 << 5, 0, &[1, 1]), yes), // y'-x'-5 = x-y-15; + 4-x = -y-11: -6
+        ("action 2, P2 afterwards from P5", lemma(2, 1, 2, 0, 1 << 5, &[1, 1]), yes), // 4-x + x-5 = -1
+        ("action 2, P2 afterwards from P2", lemma(2, 1, 2, 0, 1 << 2, &[1, 1]), no), // 4-x + y: 9
+        ("action 5, P2 afterwards from P2", lemma(5, 1, 2, 0, 1 << 2, &[1, 1]), no), // y-1 + y: 9
+        ("action 5, P2 afterwards where P2 fails", lemma(5, 1, 2, 1 << 2, 0, &[1, 1]), yes), // y-1 - y-1 = -2
+        ("action 5, not P2 from P2: 0 is left", lemma(5, 2, 2, 0, 1 << 2, &[1, 1]), no), // -y + y = 0
+        // premises by rising predicate, true and false mixed
+        ("premises mixed, right order", lemma(2, 0, 0, 1, 2, &[1, 1]), yes), // 2-x + x-8 = -6
+        ("premises mixed, first only", lemma(2, 0, 0, 1, 2, &[1, 0]), no),   // 2-x: 2
+        ("premises mixed, second only", lemma(2, 0, 0, 1, 2, &[0, 1]), no),  // x-8: 2
+        ("premises false, true, 2 and 1", lemma(2, 0, 0, 1, 1 << 5, &[2, 1]), yes), // 4-2x + x-5 = -x-1: -1
+        ("premises false, true, 1 and 2", lemma(2, 0, 0, 1, 1 << 5, &[1, 2]), no), // 2-x + 2x-10 = x-8: 2
+        ("premises true, false, 2 and 1", lemma(2, 0, 0, 1 << 5, 2, &[2, 1]), yes), // 2x-16 + 4-x = x-12: -2
+        ("premises true, false, 1 and 2", lemma(2, 0, 0, 1 << 5, 2, &[1, 2]), no), // x-8 + 8-2x = -x: 0
+        ("goal, premises, guard in order", lemma(0, 3, 0, 1, 1 << 1, &[1, 0, 1, 0]), yes), // 4-x + x-8 = -4
+        ("goal, premises, guard, other premise", lemma(0, 3, 0, 1, 1 << 1, &[1, 1, 0, 0]), no), // 4-x + 2-x: 6
+        ("premises mixed, weights 4 and 1", lemma(2, 0, 0, 1, 2, &[4, 1]), no), // 8-4x + x-8 = -3x: 0
+        ("premises mixed, weights 1 and 4", lemma(2, 0, 0, 1, 2, &[1, 4]), no), // 2-x + 4x-32 = 3x-30, high end: 0
+    ];
+    for (name, l, hand) in &list {
+        book.ask(name, &p, l, 0, hand);
+    }
+    // All of them in one list, asked by number; and judged.
+    let all: Vec<u32> = list.iter().flat_map(|(_, l, _)| l.iter().copied()).collect();
+    for k in (0..list.len()).step_by(12) {
+        book.ask(&format!("all asks in one list, {k}"), &p, &all, k as u32, "");
+    }
+    book.ask("all asks, last", &p, &all, list.len() as u32 - 1, "NOT ACCEPTED");
+    book.ask("all asks, one past", &p, &all, list.len() as u32, &refused(8, list.len()));
+    book.judge("all asks judged", &p, &all, "");
+    for bad in [(0, 2), (1, 0), (4, 1), (0x60, 0), (0, 0)] {
+        let mut t = t.clone();
+        t.bad = vec![bad];
+        book.judge(&format!("all asks judged, bad {bad:?}"), &t.words(), &all, "");
+    }
+}
+
+/// Lemmas at every limit.
+fn limits(book: &mut Book) {
+    let eight = |c: i32| (0..8).map(|v| (v, c)).collect::<Vec<_>>();
+    let up = row(1_000_000, &eight(1000));
+    let down = row(-1_000_000, &eight(-1000));
+    let most = |low: i32, high: i32, rows: &RowText, guards: &RowText| Text {
+        vars: vec![(low, high); 8],
+        init: vec![guards.clone(); 8],
+        pred: vec![rows.clone(); 14],
+        actions: vec![act(&vec![guards.clone(); 8], &(0..8).map(|v| (v, rows.clone())).collect::<Vec<_>>()); 2],
+        bad: vec![(0x2AAA, 0x1555); 2],
+    };
+    let full = vec![65_535; 23];
+    let yes = "ACCEPTED";
+    let no = "NOT ACCEPTED";
+    // Premises and guards all `up`, ranges fixed at the low end: each row is
+    // 1,000,000 - 8 * 8,192,000 = -64,536,000; goal 0 sums 14 premises and 8 guards.
+    let t = most(-8192, -8192, &up, &up);
+    let every = 0x3FFF;
+    book.ask("limits, all low, goal 0", &t.words(), &lemma(1, 0, 0, 0, every, &full[..22]), 0, yes);
+    book.ask("limits, all low, premises fail", &t.words(), &lemma(1, 0, 0, every, 0, &full[..22]), 0, no);
+    let t = most(8191, 8191, &down, &down);
+    book.ask("limits, all high, goal 0", &t.words(), &lemma(1, 0, 0, 0, every, &full[..22]), 0, yes);
+    let t = most(-8192, 8191, &up, &up);
+    book.ask("limits, whole ranges, goal 0", &t.words(), &lemma(0, 0, 0, 0, every, &full[..22]), 0, no);
+    // Rows that cancel: guards -1000 each with -1,000,000, premises 1000 each with 1,000,000.
+    for (goal, index) in [(0, 0), (1, 13), (2, 0), (3, 7), (4, 0)] {
+        for (name, a, b) in [("up/down", &up, &down), ("down/up", &down, &up), ("up/up", &up, &up)] {
+            if goal % 2 == 1 && name == "up/up" {
+                continue;
+            }
+            let t = most(-8192, 8191, a, b);
+            let count = if goal == 0 { 22 } else { 23 };
+            let l = lemma(1, goal, index, 0x1555, 0x2AAA, &full[..count]);
+            book.ask(&format!("limits {name}, goal {goal} index {index}"), &t.words(), &l, 0, "");
+        }
+    }
+    // 7 premises hold and 7 fail: -7 together; 4 guards up and 4 down: 0 together.
+    let mut t = most(-8192, 8191, &up, &up);
+    let guards: Vec<RowText> = (0..8).map(|i| if i % 2 == 0 { up.clone() } else { down.clone() }).collect();
+    t.actions = vec![act(&guards, &(0..8).map(|v| (v, up.clone())).collect::<Vec<_>>()); 2];
+    t.bad = vec![(0x2AAA, 0x1555); 8];
+    let p = t.words();
+    let l = lemma(1, 0, 0, 0x1555, 0x2AAA, &full[..22]);
+    book.ask("limits, 14 premises and 8 guards, sum -458,745", &p, &l, 0, yes);
+    for at in [0, 13, 14, 21] {
+        let mut m = full[..22].to_vec();
+        m[at] -= 1;
+        let l = lemma(1, 0, 0, 0x1555, 0x2AAA, &m);
+        // one row short: its opposite is left, 1,000 under each variable, at most far above 0
+        book.ask(&format!("limits, multiplier {at} one less"), &p, &l, 0, no);
+    }
+    // Afterwards `up` is 8,000 times up plus 1,000,000: 8 times its negation and 64,000 times a
+    // row up leave -8,000,008; 64,001 times leave 1,000 under each variable.
+    for (at, index) in [(1, 0), (14, 13), (15, 7), (21, 7)] {
+        for (weight, hand) in [(64_000, yes), (64_001, no)] {
+            let mut m = vec![0; 23];
+            m[0] = 8;
+            m[at] = weight;
+            let l = lemma(1, 1, index, 0, every, &m);
+            book.ask(&format!("limits, afterwards up, row {at}, {weight}"), &p, &l, 0, hand);
+        }
+    }
+    // v := up. Not below: -8,192 - up - 1 and up leave -8,193 each; not above: up - 8,191 - 1 and
+    // down (or up failing) leave -8,192 (or -8,193) each.
+    for (goal, f, t_, at, hand) in [
+        (3, 0, every, 1, yes),
+        (3, 0, every, 15, yes),
+        (3, 0, every, 16, no),
+        (4, every, 0, 14, yes),
+        (4, 0, every, 16, yes),
+        (4, 0, every, 15, no),
+    ] {
+        let mut m = vec![0; 23];
+        m[0] = 65_535;
+        m[at] = 65_535;
+        let l = lemma(1, goal, 7, f, t_, &m);
+        book.ask(&format!("limits, goal {goal}, row {at}"), &p, &l, 0, hand);
+    }
+    // A greatest program whose lemmas are accepted: the start gives all 14 predicates, each action
+    // keeps them and stays in its ranges.
+    t.actions = vec![t.actions[0].clone(); 16];
+    let p = t.words();
+    let mut l = Vec::new();
+    let mut fewer = Vec::new();
+    for i in 0..14 {
+        let mut m = vec![0; 9];
+        m[0] = 65_535;
+        m[8] = 65_535;
+        l.extend(lemma(START, 1, i, 0, 0, &m));
+    }
+    fewer.extend(&l);
+    let with = |pairs: &[(usize, u32)]| {
+        let mut m = vec![0; 23];
+        pairs.iter().for_each(|(at, value)| m[*at] = *value);
+        m
+    };
+    for a in 0..16 {
+        for i in 0..14 {
+            let one = lemma(a, 1, i, 0, every, &with(&[(0, 8), (15 + 2 * (i as usize % 4), 64_000)]));
+            l.extend(&one);
+            if a != i {
+                fewer.extend(&one);
+            }
+        }
+        for v in 0..8 {
+            let low = lemma(a, 3, v, 0, every, &with(&[(0, 65_535), (1 + v as usize, 65_535)]));
+            let high = lemma(a, 4, v, 0, every, &with(&[(0, 65_535), (22, 65_535)]));
+            l.extend([low.clone(), high.clone()].concat());
+            fewer.extend([low, high].concat());
+        }
+    }
+    book.judge("greatest program, all accepted", &p, &l, "SAFE nodes 1 edges 16");
+    // Without the lemmas that action i keeps predicate i: nodes 1 to 14 lack one predicate each,
+    // and there no lemma applies; all their actions lead to the empty set, node 15.
+    book.judge("greatest program, not all kept", &p, &fewer, "RUNOFF node 1 action 0 variable 0 low nodes 16 edges 256");
+    // Exact edges: x over the whole range, A = 1000x - 1,000,000, B = -1000x + 1,000,000, C = -1.
+    let t = Text {
+        vars: vec![(-8192, 8191)],
+        init: vec![row(-1_000_000, &[(0, 1000)]), row(1_000_000, &[(0, -1000)]), never()],
+        pred: vec![row(-1_000_000, &[(0, 1000)]), row(1_000_000, &[(0, -1000)]), never()],
+        actions: vec![act(&[], &[(0, row(1_000_000, &[(0, 1000)]))])],
+        bad: vec![],
+    };
+    let p = t.words();
+    let m = 65_535;
+    book.ask("edge, start 0", &p, &lemma(START, 0, 0, 0, 0, &[m, m, 0]), 0, no);
+    book.ask("edge, start -1", &p, &lemma(START, 0, 0, 0, 0, &[m, m, 1]), 0, yes);
+    book.ask("edge, start -65,535", &p, &lemma(START, 0, 0, 0, 0, &[m, m, m]), 0, yes);
+    book.ask("edge, premises 0", &p, &lemma(0, 0, 0, 0, 7, &[m, m, 0]), 0, no);
+    book.ask("edge, premises -1", &p, &lemma(0, 0, 0, 0, 7, &[m, m, 1]), 0, yes);
+    // Both fail: -A-1 + -B-1 = -2 each.
+    book.ask("edge, both fail", &p, &lemma(0, 0, 0, 3, 0, &[1, 1]), 0, yes);
+    book.ask("edge, both fail, uneven", &p, &lemma(0, 0, 0, 3, 0, &[m, m - 1]), 0, no);
+    // x := 1000x + 1,000,000 stays under A only by 1000(1000x + 1,000,000) - 1,000,000 < 0.
+    book.ask("edge, afterwards A", &p, &lemma(0, 1, 0, 0, 0, &[m]), 0, no);
+    book.ask("edge, afterwards A from A", &p, &lemma(0, 1, 0, 0, 1, &[1, 1000]), 0, yes);
+    book.ask("edge, afterwards A from A, most", &p, &lemma(0, 1, 0, 0, 1, &[65, 65_000]), 0, yes);
+    book.ask("edge, afterwards not B from A", &p, &lemma(0, 2, 1, 0, 1, &[1, 1000]), 0, yes);
+    book.ask("edge, afterwards above", &p, &lemma(0, 4, 0, 0, 0, &[m]), 0, no);
+    book.ask("edge, afterwards not below", &p, &lemma(0, 3, 0, 0, 0, &[m]), 0, no);
+    book.ask("edge, afterwards not below from A", &p, &lemma(0, 3, 0, 0, 1, &[m, m]), 0, yes);
+    // Ends: the last variable value that an end allows, by constants.
+    for (value, low, high) in [(-8193, no, yes), (-8192, yes, yes), (8191, yes, yes), (8192, yes, no)] {
+        let mut t = t.clone();
+        t.actions = vec![act(&[], &[(0, row(value, &[]))])];
+        book.ask(&format!("end, {value} low"), &t.words(), &lemma(0, 3, 0, 0, 0, &[1]), 0, low);
+        book.ask(&format!("end, {value} high"), &t.words(), &lemma(0, 4, 0, 0, 0, &[m]), 0, high);
+    }
+    // The greatest program with 512 of the greatest lemmas: 2,665 and 12,800 words.
+    let mut t = most(-8192, 8191, &up, &down);
+    t.actions = vec![t.actions[0].clone(); 16];
+    t.bad = vec![(0x2AAA, 0x1555); 8];
+    let p = t.words();
+    let mut l = Vec::new();
+    for number in 0..512u32 {
+        let goal = 1 + number % 4;
+        let index = if goal < 3 { number % 14 } else { number % 8 };
+        let f = number.wrapping_mul(40_503) & 0x3FFF;
+        let mults: Vec<u32> = (0..23).map(|i| if number % 3 == 0 { 65_535 } else { number * i % 65_536 }).collect();
+        l.extend(lemma(number % 16, goal, index, f, !f & 0x3FFF, &mults));
+    }
+    book.judge("greatest program and lemmas", &p, &l, "");
+    book.judge("greatest program, no lemmas", &p, &[], "FORBID node 0 bad 0 nodes 1 edges 16");
+    let mut t = most(-8192, 8191, &down, &up);
+    t.actions = vec![t.actions[0].clone(); 16];
+    book.ask("greatest program, ask 511", &t.words(), &l, 511, "");
+}
+
+/// `bits` predicates over one variable and `actions` actions, no assignments. Action i (below
+/// `bits`) has the guard P_i and keeps the other true predicates: the nodes are the subsets.
+pub fn subsets_text(bits: u32, actions: u32) -> (Text, Vec<u32>) {
+    let pred: Vec<RowText> = (0..bits).map(|i| row(-(i as i32) - 1, &[(0, 1)])).collect();
+    let guard = |i: u32| if i < bits { pred[i as usize].clone() } else { never() };
+    let t = Text {
+        vars: vec![(0, 100)],
+        init: vec![],
+        pred: pred.clone(),
+        actions: (0..actions).map(|i| act(&[guard(i)], &[])).collect(),
+        bad: vec![],
+    };
+    let mut l = Vec::new();
+    for i in 0..bits.min(actions) {
+        for j in 0..bits {
+            if i == j {
+                l.extend(lemma(i, 1, j, 0, 0, &[1, 1])); // -P-1 + P = -1
+            } else {
+                l.extend(lemma(i, 1, j, 0, 1 << j, &[1, 1, 0])); // -P-1 + P = -1
+            }
+        }
+    }
+    (t, l)
+}
+
+pub fn subsets(bits: u32, actions: u32) -> (Vec<u32>, Vec<u32>) {
+    let (t, l) = subsets_text(bits, actions);
+    (t.words(), l)
+}
+
+/// A counter of `bits` bits: the start is all false, action 0 counts up, and back to 0 at the end.
+pub fn counter(bits: u32, bad: &[(u32, u32)]) -> (Text, Vec<u32>) {
+    let t = Text {
+        vars: vec![(0, 0)],
+        init: vec![never()],
+        pred: vec![row(0, &[(0, 1)]); bits as usize],
+        actions: vec![act(&[never()], &[])],
+        bad: bad.to_vec(),
+    };
+    let mut l = Vec::new();
+    for j in 0..bits {
+        l.extend(t.forced(START, 2, j, 0, 0));
+        let below = (1 << j) - 1;
+        l.extend(t.forced(0, 1, j, 1 << j, below));
+        l.extend(t.forced(0, 2, j, 0, below | 1 << j));
+        for i in 0..j {
+            l.extend(t.forced(0, 1, j, 1 << i, 1 << j));
+            l.extend(t.forced(0, 2, j, 1 << i | 1 << j, 0));
+        }
+    }
+    (t, l)
+}
+
+/// Graphs: 512 and 513 nodes, empty, contradictions, loops.
+fn graphs(book: &mut Book) {
+    let (p, l) = subsets(9, 9);
+    book.judge("512 nodes", &p, &l, "SAFE nodes 512 edges 4608");
+    book.judge_with("512 nodes, longer lists", &p, &l, 9999, 777, "SAFE nodes 512 edges 4608");
+    let (p, l) = subsets(8, 8);
+    book.judge("256 nodes", &p, &l, "SAFE nodes 256 edges 2048");
+    let (p, l) = subsets(10, 10);
+    book.judge("1024 nodes", &p, &l, "REFUSED 7 AT 512");
+    book.judge_with("1024 nodes, longer lists", &p, &l, 9300, 600, "REFUSED 7 AT 512");
+    // 16 actions: the last seven lead to the empty set, which is node 0; 9,216 words in use.
+    let (t, l) = subsets_text(9, 16);
+    book.judge("512 nodes of 18 words", &t.words(), &l, "SAFE nodes 512 edges 8192");
+    book.judge_with("512 nodes of 18 words, longer", &t.words(), &l, 9217, 513, "SAFE nodes 512 edges 8192");
+    // The same with action 15 impossible (goal 0) everywhere: one edge fewer for each node.
+    let mut l0 = l.clone();
+    l0.extend(t.forced(15, 0, 0, 0, 0));
+    book.judge("512 nodes, action 15 impossible", &t.words(), &l0, "SAFE nodes 512 edges 7680");
+    // Node 511 is the set of all nine; action 15 of node 511 needs the 513th node.
+    let mut t10 = t.clone();
+    t10.pred.push(row(0, &[]));
+    let mut last = l.clone();
+    last.extend(t10.forced(15, 1, 9, 0, 0x1FF));
+    book.judge("513th node from node 511 action 15", &t10.words(), &last, "REFUSED 7 AT 512");
+    // The same with the opposite too: no successor there.
+    last.extend(t10.forced(15, 2, 9, 0, 0x1FF));
+    book.judge("contradiction at node 511 action 15", &t10.words(), &last, "SAFE nodes 512 edges 8191");
+    // A finding only at the last node: the combination of nine true, contradicted nowhere; so at 0.
+    let mut t_bad = t.clone();
+    t_bad.bad = vec![(0, 0x1FF)];
+    book.judge("subsets contradict nothing", &t_bad.words(), &l, "FORBID node 0 bad 0 nodes 512 edges 8192");
+    // Exactly 513: the tenth action gives {P9} alone, which nothing keeps.
+    let (mut t, mut l) = subsets_text(9, 9);
+    t.pred.push(row(-50, &[(0, 1)]));
+    t.actions.push(act(&[row(-50, &[(0, 1)])], &[]));
+    l.extend(lemma(9, 1, 9, 0, 0, &[1, 1]));
+    book.judge("513 nodes exactly", &t.words(), &l, "REFUSED 7 AT 512");
+    let (p, mut l) = (t.words(), l);
+    l.extend(lemma(9, 0, 0, 0, 0, &[0]));
+    book.judge("513 nodes, goal 0 not accepted", &p, &l, "REFUSED 7 AT 512");
+
+    // Counters: paths of many steps.
+    for bits in [1, 4, 9] {
+        let nodes = 1 << bits;
+        let (t, l) = counter(bits, &[]);
+        let hand = format!("SAFE nodes {nodes} edges {nodes}");
+        book.judge(&format!("counter {bits}"), &t.words(), &l, &hand);
+        let (t, l) = counter(bits, &[(0, nodes - 1)]);
+        let hand = format!("FORBID node {} bad 0 nodes {nodes} edges {nodes}", nodes - 1);
+        book.judge(&format!("counter {bits}, last forbidden"), &t.words(), &l, &hand);
+        book.judge_with(&format!("counter {bits}, last forbidden, longer"), &t.words(), &l, 9250, 520, &hand);
+    }
+    let (t, l) = counter(10, &[]);
+    book.judge("counter 10", &t.words(), &l, "REFUSED 7 AT 512");
+    let (t, l) = counter(9, &[(3, 0x1FC), (1, 0x1FE)]);
+    book.judge("counter 9, 508 forbidden", &t.words(), &l, "FORBID node 508 bad 0 nodes 512 edges 512");
+    let (t, l) = counter(14, &[(0x3FFF, 0)]);
+    book.judge("counter 14", &t.words(), &l, "REFUSED 7 AT 512");
+
+    // Empty graphs.
+    let mut t = Text {
+        vars: vec![(0, 5)],
+        init: vec![row(-6, &[(0, 1)])], // x >= 6: no start state
+        pred: vec![row(-3, &[(0, 1)])],
+        actions: vec![act(&[], &[(0, row(99, &[]))])],
+        bad: vec![(0, 0)],
+    };
+    let p = t.words();
+    book.judge("empty graph by goal 0", &p, &lemma(START, 0, 0, 0, 0, &[1]), "SAFE nodes 0 edges 0");
+    book.judge_with("empty graph by goal 0, longer", &p, &lemma(START, 0, 0, 0, 0, &[1]), 9220, 515, "SAFE nodes 0 edges 0");
+    let both = [lemma(START, 1, 0, 0, 0, &[0, 1]), lemma(START, 2, 0, 0, 0, &[0, 1])].concat();
+    book.judge("empty graph by contradiction", &p, &both, "SAFE nodes 0 edges 0");
+    let all = [both.clone(), lemma(START, 0, 0, 0, 0, &[1])].concat();
+    book.judge("empty graph by all", &p, &all, "SAFE nodes 0 edges 0");
+    book.judge("goal 0 not accepted", &p, &lemma(START, 0, 0, 0, 0, &[0]), "FORBID node 0 bad 0 nodes 1 edges 1");
+    let half = [lemma(START, 1, 0, 0, 0, &[0, 1]), lemma(START, 2, 0, 0, 0, &[0, 0])].concat();
+    book.judge("one of the two not accepted", &p, &half, "FORBID node 0 bad 0 nodes 2 edges 2");
+    t.pred.push(row(0, &[]));
+    let apart = [lemma(START, 1, 0, 0, 0, &[0, 1]), lemma(START, 2, 1, 0, 0, &[0, 1])].concat();
+    book.judge("goals 1 and 2 of two predicates", &t.words(), &apart, "FORBID node 0 bad 0 nodes 2 edges 2");
+    t.bad.clear();
+    t.actions.clear();
+    book.judge("one node, no actions", &t.words(), &apart, "SAFE nodes 1 edges 0");
+    book.judge("empty graph, no actions", &t.words(), &all, "SAFE nodes 0 edges 0");
+
+    // Contradicting lemmas at some nodes only.
+    let t = Text {
+        vars: vec![(0, 9)],
+        init: vec![never()],
+        pred: vec![row(0, &[(0, 1)]); 3],
+        actions: vec![act(&[never()], &[]); 3],
+        bad: vec![],
+    };
+    let p = t.words();
+    let l = [
+        t.forced(START, 1, 0, 0, 0),
+        t.forced(0, 1, 1, 0, 1), // {P0} by 0 is {P1}
+        t.forced(1, 1, 2, 0, 2), // {P1} by 1 is contradicting
+        t.forced(1, 2, 2, 0, 2),
+        t.forced(2, 2, 0, 0, 0), // 2 gives {not P0} everywhere
+    ]
+    .concat();
+    // 0 {P0}: {P1} = 1, {} = 2, {not P0} = 3. 1: {} , none, 3. 2: {}, {}, 3. 3: {}, {}, 3.
+    book.judge("contradiction at node 1", &p, &l, "SAFE nodes 4 edges 11");
+    let l = [l, t.forced(2, 0, 0, 0, 2)].concat();
+    book.judge("contradiction and goal 0 at node 1", &p, &l, "SAFE nodes 4 edges 10");
+    let l = [l, t.forced(0, 0, 0, 1, 0), t.forced(1, 0, 0, 1, 0)].concat();
+    book.judge("and goal 0 at node 3", &p, &l, "SAFE nodes 4 edges 8");
+    // Nothing is kept: an action with no guard and no assignment leads to the empty set.
+    let t = Text {
+        vars: vec![(0, 9)],
+        init: vec![never()],
+        pred: vec![row(0, &[(0, 1)])],
+        actions: vec![ActionText::default()],
+        bad: vec![(0, 1)],
+    };
+    let l = t.forced(START, 2, 0, 0, 0);
+    book.judge("nothing is kept", &t.words(), &l, "FORBID node 1 bad 0 nodes 2 edges 2");
+    // Loops and repeated targets: 16 actions back to node 0.
+    let t = Text { vars: vec![(0, 9)], actions: vec![ActionText::default(); 16], ..Text::default() };
+    book.judge("16 loops", &t.words(), &[], "SAFE nodes 1 edges 16");
+    // Predicate 13 alone; both sides of SETS.
+    let t = Text {
+        vars: vec![(0, 9)],
+        init: vec![never()],
+        pred: vec![row(0, &[(0, 1)]); 14],
+        actions: vec![act(&[never()], &[]); 16],
+        bad: vec![(0x2000, 0)],
+    };
+    let mut l = Vec::new();
+    for i in 0..14 {
+        l.extend(t.forced(START, 1 + i % 2, i, 0, 0));
+        l.extend(t.forced(i, 1, i, 0, 0));
+        l.extend(t.forced(i, 2, 13 - i, 0, 0));
+    }
+    l.extend(t.forced(14, 1, 13, 0, 0));
+    book.judge("14 predicates, 16 actions", &t.words(), &l, "");
+}
+
+/// The order of findings.
+fn verdicts(book: &mut Book) {
+    // Two variables, four predicates, four actions that can never happen: lemmas at will.
+    let t = Text {
+        vars: vec![(0, 10), (-3, 3)],
+        init: vec![never()],
+        pred: vec![row(0, &[(0, 1)]); 4],
+        actions: vec![
+            act(&[never()], &[(0, row(50, &[])), (1, row(50, &[]))]),
+            act(&[never()], &[(1, row(0, &[]))]),
+            act(&[never()], &[]),
+            act(&[never()], &[(0, row(0, &[]))]),
+        ],
+        bad: vec![],
+    };
+    let ends = |pairs: &[(u32, u32, u32)]| -> Vec<u32> {
+        pairs.iter().flat_map(|(a, v, goal)| t.forced(*a, *goal, *v, 0, 0)).collect()
+    };
+    let all = [(0, 0, 3), (0, 0, 4), (0, 1, 3), (0, 1, 4), (1, 1, 3), (1, 1, 4), (3, 0, 3), (3, 0, 4)];
+    let with_bad = |bad: &[(u32, u32)]| {
+        let mut t = t.clone();
+        t.bad = bad.to_vec();
+        t.words()
+    };
+    let p = with_bad(&[]);
+    book.judge("all ends shown", &p, &ends(&all), "SAFE nodes 1 edges 4");
+    for (missing, (a, v, goal)) in all.iter().enumerate() {
+        let kept: Vec<_> = all.iter().enumerate().filter(|(i, _)| *i != missing).map(|(_, e)| *e).collect();
+        let end = if *goal == 3 { "low" } else { "high" };
+        let hand = format!("RUNOFF node 0 action {a} variable {v} {end} nodes 1 edges 4");
+        book.judge(&format!("end {missing} missing"), &p, &ends(&kept), &hand);
+        let later = &all[..missing];
+        if missing % 2 == 0 {
+            continue;
+        }
+        book.judge(&format!("ends from {missing} on missing"), &p, &ends(later), &hand);
+    }
+    let before = ends(&[(0, 0, 3), (0, 1, 3), (0, 1, 4)]);
+    book.judge("variable 0 high before action 1", &p, &before, "RUNOFF node 0 action 0 variable 0 high nodes 1 edges 4");
+    book.judge("low before high", &p, &ends(&all[4..]), "RUNOFF node 0 action 0 variable 0 low nodes 1 edges 4");
+    book.judge("forbid before run-off", &with_bad(&[(0, 0)]), &[], "FORBID node 0 bad 0 nodes 1 edges 4");
+    book.judge("empty combination, all ends shown", &with_bad(&[(0, 0)]), &ends(&all), "FORBID node 0 bad 0 nodes 1 edges 4");
+    // An action without a successor is not judged.
+    let gone = t.forced(0, 0, 0, 0, 0);
+    book.judge("action 0 gone by goal 0", &p, &gone, "RUNOFF node 0 action 1 variable 1 low nodes 1 edges 3");
+    let clash = [t.forced(0, 1, 2, 0, 0), t.forced(0, 2, 2, 0, 0)].concat();
+    book.judge("action 0 gone by a clash", &p, &clash, "RUNOFF node 0 action 1 variable 1 low nodes 1 edges 3");
+    let gone3 = [gone.clone(), t.forced(1, 0, 0, 0, 0), t.forced(3, 0, 0, 0, 0)].concat();
+    book.judge("all that set are gone", &p, &gone3, "SAFE nodes 1 edges 1");
+    // The combinations in order.
+    let start = [t.forced(START, 1, 0, 0, 0), t.forced(START, 2, 1, 0, 0)].concat(); // {P0, not P1}
+    let loops = [
+        t.forced(0, 0, 0, 0, 0),
+        t.forced(1, 0, 0, 0, 0),
+        t.forced(3, 0, 0, 0, 0),
+        t.forced(2, 1, 0, 0, 1),
+        t.forced(2, 2, 1, 2, 0),
+    ]
+    .concat(); // action 2 keeps {P0, not P1}
+    let l = [start.clone(), loops.clone()].concat();
+    for (name, bad, hand) in [
+        ("contradicted by not P0", vec![(1, 0)], "SAFE nodes 1 edges 1"),
+        ("contradicted by P1", vec![(0, 2)], "SAFE nodes 1 edges 1"),
+        ("contradicted by one of two", vec![(0, 3)], "SAFE nodes 1 edges 1"),
+        ("the node itself", vec![(2, 1)], "FORBID node 0 bad 0 nodes 1 edges 1"),
+        ("more than the node", vec![(2, 5)], "FORBID node 0 bad 0 nodes 1 edges 1"),
+        ("other predicates", vec![(8, 4)], "FORBID node 0 bad 0 nodes 1 edges 1"),
+        ("third of four", vec![(1, 0), (0, 2), (8, 0), (0, 0)], "FORBID node 0 bad 2 nodes 1 edges 1"),
+        ("last of eight", vec![(1, 0), (0, 2), (1, 2), (3, 0), (0, 3), (1, 4), (4, 2), (0, 8)], "FORBID node 0 bad 7 nodes 1 edges 1"),
+        ("all eight contradicted", vec![(1, 0), (0, 2), (1, 2), (3, 0), (0, 3), (1, 4), (4, 2), (1, 8)], "SAFE nodes 1 edges 1"),
+        ("equal combinations", vec![(1, 0), (2, 1), (2, 1)], "FORBID node 0 bad 1 nodes 1 edges 1"),
+    ] {
+        book.judge(&format!("combination, {name}"), &with_bad(&bad), &l, hand);
+    }
+    // Run-off at node 0 before a forbidden combination at node 1. Start {P0}; action 1 (sets
+    // variable 1) gives {not P0}; actions 0 and 3 cannot happen; action 2 keeps.
+    let walk = [
+        t.forced(START, 1, 0, 0, 0),
+        t.forced(0, 0, 0, 0, 0),
+        t.forced(3, 0, 0, 0, 0),
+        t.forced(1, 2, 0, 0, 0),
+        t.forced(2, 1, 0, 0, 1),
+        t.forced(2, 2, 0, 1, 0),
+    ]
+    .concat();
+    let p1 = with_bad(&[(1, 0)]);
+    book.judge("run-off at node 0 before forbid at node 1", &p1, &walk, "RUNOFF node 0 action 1 variable 1 low nodes 2 edges 4");
+    let low = [walk.clone(), t.forced(1, 3, 1, 0, 0)].concat();
+    book.judge("run-off high at node 0 before forbid at node 1", &p1, &low, "RUNOFF node 0 action 1 variable 1 high nodes 2 edges 4");
+    let shown = [low.clone(), t.forced(1, 4, 1, 0, 0)].concat();
+    book.judge("forbid at node 1", &p1, &shown, "FORBID node 1 bad 0 nodes 2 edges 4");
+    let at_zero = [low.clone(), t.forced(1, 4, 1, 0, 1)].concat();
+    book.judge("high shown at node 0 only, forbid first", &p1, &at_zero, "FORBID node 1 bad 0 nodes 2 edges 4");
+    book.judge("high shown at node 0 only", &p, &at_zero, "RUNOFF node 1 action 1 variable 1 high nodes 2 edges 4");
+    let at_one = [low.clone(), t.forced(1, 4, 1, 1, 0)].concat();
+    book.judge("high shown at node 1 only", &p, &at_one, "RUNOFF node 0 action 1 variable 1 high nodes 2 edges 4");
+    let each = [at_zero.clone(), t.forced(1, 4, 1, 1, 0)].concat();
+    book.judge("high shown at each node by its own lemma", &p, &each, "SAFE nodes 2 edges 4");
+    let not = [low.clone(), lemma(1, 4, 1, 0, 0, &[0, 0])].concat();
+    book.judge("high by a lemma that is not accepted", &p, &not, "RUNOFF node 0 action 1 variable 1 high nodes 2 edges 4");
+    // Node 1 loops on itself by action 1, with a missing range lemma there.
+    book.judge("own node, missing range lemma", &p, &at_zero, "RUNOFF node 1 action 1 variable 1 high nodes 2 edges 4");
+
+    // Paths: a tree with several ways to one node; the first found counts.
+    let t = Text {
+        vars: vec![(0, 10)],
+        init: vec![never()],
+        pred: vec![row(0, &[(0, 1)]); 4],
+        actions: vec![
+            act(&[never()], &[]),
+            act(&[never()], &[]),
+            act(&[never()], &[(0, row(0, &[]))]),
+        ],
+        bad: vec![],
+    };
+    let complete = |f: u32, t_: u32| (f, t_);
+    let (f0, t0) = complete(0xF, 0);
+    let mut l = Vec::new();
+    // node as a number 0..15 of true predicates; transitions by full premises
+    let moves: [(u32, u32, u32); 12] = [
+        (0, 0, 1), (0, 1, 2), (0, 2, 0),
+        (1, 0, 3), (1, 1, 4), (1, 2, 1),
+        (2, 0, 4), (2, 1, 5), (2, 2, 2),
+        (4, 0, 6), (4, 1, 7), (6, 1, 8),
+    ];
+    for i in 0..4 {
+        if f0 >> i & 1 == 1 {
+            l.extend(t.forced(START, 2, i, 0, 0));
+        }
+        if t0 >> i & 1 == 1 {
+            l.extend(t.forced(START, 1, i, 0, 0));
+        }
+    }
+    for (from, action, to) in moves {
+        for i in 0..4 {
+            let goal = if to >> i & 1 == 1 { 1 } else { 2 };
+            l.extend(t.forced(action, goal, i, !from & 0xF, from));
+        }
+    }
+    // Where no move is given the actions cannot happen.
+    for node in 0..16u32 {
+        for action in 0..3 {
+            if !moves.iter().any(|(f, a, _)| *f == node && *a == action) {
+                l.extend(t.forced(action, 0, 0, !node & 0xF, node));
+            }
+        }
+    }
+    let ends = [t.forced(2, 3, 0, 0, 0), t.forced(2, 4, 0, 0, 0)].concat();
+    let safe = [l.clone(), ends].concat();
+    // Numbers: 0:0, 1:1, 2:2, 3:3, 4:4, 5:5, 6:6, 7:7, 8:8 by the order of moves.
+    book.judge("tree", &t.words(), &safe, "SAFE nodes 9 edges 12");
+    for target in [1u32, 4, 5, 8] {
+        let mut t = t.clone();
+        t.bad = vec![(!target & 0xF, target)];
+        let hand = format!("FORBID node {target} bad 0 nodes 9 edges 12");
+        book.judge(&format!("tree, {target} forbidden"), &t.words(), &safe, &hand);
+    }
+    for target in [8u32, 5] {
+        let mut t = t.clone();
+        t.bad = vec![(!8 & 0xF, 8), (!target & 0xF, target)];
+        let hand = if target == 8 { "FORBID node 8 bad 0 nodes 9 edges 12" } else { "FORBID node 5 bad 1 nodes 9 edges 12" };
+        book.judge(&format!("tree, 8 and {target} forbidden"), &t.words(), &safe, hand);
+    }
+    let partly = [l.clone(), t.forced(2, 3, 0, 0, 0), t.forced(2, 4, 0, 1, 0)].concat();
+    book.judge("tree, high end missing at node 1", &t.words(), &partly, "RUNOFF node 1 action 2 variable 0 high nodes 9 edges 12");
+    let partly = [l.clone(), t.forced(2, 4, 0, 0, 0), t.forced(2, 3, 0, 2, 0)].concat();
+    book.judge("tree, low end missing at node 2", &t.words(), &partly, "RUNOFF node 2 action 2 variable 0 low nodes 9 edges 12");
+}
+
+// ---------------------------------------------------------------------------------------------
+// Chance
+
+pub struct Dice(u64);
+
+impl Dice {
+    pub fn new(seed: u64) -> Dice {
+        Dice(seed.wrapping_mul(0x9E37_79B9_7F4A_7C15) | 1)
+    }
+
+    pub fn next(&mut self) -> u64 {
+        self.0 ^= self.0 << 13;
+        self.0 ^= self.0 >> 7;
+        self.0 ^= self.0 << 17;
+        self.0.wrapping_mul(0x2545_F491_4F6C_DD1D) >> 16
+    }
+
+    pub fn below(&mut self, n: u32) -> u32 {
+        (self.next() % u64::from(n)) as u32
+    }
+
+    pub fn between(&mut self, low: i32, high: i32) -> i32 {
+        low + self.below((high - low + 1) as u32) as i32
+    }
+
+    fn row(&mut self, vars: usize, constant: i32) -> RowText {
+        let mut terms = Vec::new();
+        for v in 0..vars as u32 {
+            let c = self.between(-2, 2);
+            if c != 0 && self.below(3) > 0 {
+                terms.push((v, c));
+            }
+        }
+        (self.between(-constant, constant), terms)
+    }
+}
+
+/// A small program by chance, and lemmas of which most are accepted.
+pub fn small(seed: u64) -> (Text, Vec<u32>) {
+    let mut dice = Dice::new(seed + 1000);
+    let vars = 1 + dice.below(3) as usize;
+    let mut t = Text::default();
+    for _ in 0..vars {
+        let low = dice.between(-3, 3);
+        t.vars.push((low, low + dice.between(0, 6)));
+    }
+    for _ in 0..dice.below(3) {
+        let r = dice.row(vars, 4);
+        t.init.push(r);
+    }
+    let preds = dice.below(5);
+    for _ in 0..preds {
+        let r = dice.row(vars, 4);
+        t.pred.push(r);
+    }
+    for _ in 0..dice.below(5) {
+        let mut a = ActionText::default();
+        for _ in 0..dice.below(3) {
+            let r = dice.row(vars, 4);
+            a.guards.push(r);
+        }
+        for v in 0..vars as u32 {
+            if dice.below(3) == 0 {
+                let (low, high) = t.vars[v as usize];
+                let r = if dice.below(2) == 0 { (dice.between(low, high), vec![]) } else { dice.row(vars, 3) };
+                a.sets.push((v, r));
+            }
+        }
+        t.actions.push(a);
+    }
+    if preds > 0 {
+        for _ in 0..dice.below(3) {
+            let true_mask = dice.below(1 << preds);
+            let false_mask = dice.below(1 << preds) & !true_mask;
+            t.bad.push((false_mask, true_mask));
+        }
+    }
+    let p = t.words();
+    let mut l = Vec::new();
+    let mut sources: Vec<u32> = (0..t.actions.len() as u32).collect();
+    sources.push(START);
+    for _ in 0..40 + dice.below(60) {
+        let source = sources[dice.below(sources.len() as u32) as usize];
+        let goal = dice.below(5);
+        let index = match goal {
+            0 => 0,
+            1 | 2 if preds > 0 => dice.below(preds),
+            3 | 4 if source != START && !t.actions[source as usize].sets.is_empty() => {
+                let sets = &t.actions[source as usize].sets;
+                sets[dice.below(sets.len() as u32) as usize].0
+            }
+            _ => continue,
+        };
+        let (mut f, mut tr) = (0, 0);
+        if source != START && preds > 0 {
+            for _ in 0..dice.below(3) {
+                let bit = 1 << dice.below(preds);
+                if (f | tr) & bit == 0 {
+                    if dice.below(2) == 0 { f |= bit } else { tr |= bit }
+                }
+            }
+        }
+        let due = t.due(source, goal, f, tr);
+        let mut found = None;
+        for attempt in 0..60 {
+            let m: Vec<u32> = (0..due).map(|_| dice.below(3)).collect();
+            let one = lemma(source, goal, index, f, tr, &m);
+            if crate::ask(&p, &one, 0) == crate::Asked::Accepted {
+                found = Some(one);
+                break;
+            }
+            if attempt == 59 && dice.below(12) == 0 {
+                found = Some(one);
+            }
+        }
+        l.extend(found.unwrap_or_default());
+    }
+    (t, l)
+}
+
+/// Lemmas at will over sources that never happen: larger graphs.
+pub fn large(seed: u64) -> (Text, Vec<u32>) {
+    let mut dice = Dice::new(seed + 5000);
+    let preds = 3 + dice.below(12);
+    let mut t = Text {
+        vars: vec![(0, 3), (-1, 1)],
+        init: vec![never()],
+        pred: vec![row(0, &[(0, 1)]); preds as usize],
+        actions: vec![],
+        bad: vec![],
+    };
+    for _ in 0..1 + dice.below(16) {
+        let sets = if dice.below(3) == 0 { vec![(dice.below(2), row(0, &[]))] } else { vec![] };
+        t.actions.push(act(&[never()], &sets));
+    }
+    let actions = t.actions.len() as u32;
+    let mut l = Vec::new();
+    for i in 0..preds {
+        if dice.below(2) == 0 {
+            l.extend(t.forced(START, 1 + dice.below(2), i, 0, 0));
+        }
+    }
+    for a in 0..actions {
+        for i in 0..preds {
+            match dice.below(8) {
+                0 => l.extend(t.forced(a, 1 + dice.below(2), i, 0, 0)),
+                1..=4 => {
+                    // keep the literal
+                    l.extend(t.forced(a, 1, i, 0, 1 << i));
+                    l.extend(t.forced(a, 2, i, 1 << i, 0));
+                }
+                5 => {
+                    let other = dice.below(preds);
+                    l.extend(t.forced(a, 1, i, 1 << other, 0));
+                    if dice.below(2) == 0 {
+                        l.extend(t.forced(a, 2, i, 0, 1 << other));
+                    }
+                }
+                _ => {}
+            }
+        }
+        if dice.below(3) == 0 {
+            l.extend(t.forced(a, 0, 0, 1 << dice.below(preds), 0));
+        }
+        for (v, _) in t.actions[a as usize].sets.clone() {
+            if dice.below(10) > 0 {
+                l.extend(t.forced(a, 3, v, 0, 0));
+            }
+            if dice.below(10) > 0 {
+                l.extend(t.forced(a, 4, v, 0, 0));
+            }
+        }
+    }
+    for _ in 0..dice.below(4) {
+        let a = dice.below(1 << preds);
+        let b = dice.below(1 << preds) & dice.below(1 << preds) & !a;
+        t.bad.push((a & dice.below(1 << preds), b));
+    }
+    let list: Vec<Vec<u32>> = split_lemmas(&l);
+    (t, list.into_iter().take(512).flatten().collect())
+}
+
+fn random(book: &mut Book) {
+    for seed in 0..24 {
+        let (t, l) = small(seed);
+        book.judge(&format!("small {seed}"), &t.words(), &l, "");
+    }
+    for seed in 0..20 {
+        let (t, l) = large(seed);
+        book.judge_with(&format!("large {seed}"), &t.words(), &l, 9216 + seed as u32 % 3, 512 + seed as u32 % 2, "");
+    }
+    // Words changed, left out or put in by chance.
+    for seed in 0..24u64 {
+        let mut dice = Dice::new(seed + 9000);
+        let (mut p, mut l) = match seed % 3 {
+            0 => (demo().words(), demo_lemmas()),
+            1 => (house().words(), house_lemmas().concat()),
+            _ => {
+                let (t, l) = small(seed);
+                (t.words(), l)
+            }
+        };
+        let target = if dice.below(2) == 0 || l.is_empty() { &mut p } else { &mut l };
+        let at = dice.below(target.len() as u32) as usize;
+        match dice.below(4) {
+            0 | 1 => target[at] ^= 1 << dice.below(32),
+            2 => {
+                target.remove(at);
+            }
+            _ => {
+                let word = target[dice.below(target.len() as u32) as usize];
+                target.insert(at, word);
+            }
+        }
+        if seed % 2 == 0 {
+            book.judge(&format!("changed {seed}"), &p, &l, "");
+        } else {
+            let k = dice.below(8);
+            book.ask(&format!("changed {seed}"), &p, &l, k, "");
+        }
+    }
+}

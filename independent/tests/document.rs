@@ -1,0 +1,500 @@
+//! The worked facts of document 01, and the answers worked out by hand for the test records.
+
+use independent::lemma::{Goal, Lemma, Source};
+use independent::program::{Literals, Program};
+use independent::records::{answer, decode, digest, lent_graph, lent_path, JUDGE};
+use independent::shows::*;
+use independent::words::*;
+use independent::*;
+
+fn judged(p: &[u32], l: &[u32]) -> (Judged, Vec<u32>, Vec<u32>) {
+    let mut graph = lent_graph(9216);
+    let mut path = lent_path(512);
+    let verdict = judge(p, l, &mut graph, &mut path);
+    (verdict, graph, path)
+}
+
+fn refusal(number: u32, value: u64) -> Refusal {
+    Refusal { number, value }
+}
+
+fn zero(words: &[u32]) -> bool {
+    words.iter().all(|w| *w == 0)
+}
+
+#[test]
+fn a_fade_is_safe() {
+    let (verdict, graph, path) = judged(&FADE, &FADE_LEMMAS);
+    assert_eq!(verdict, Judged::Safe { nodes: 1, edges: 2 });
+    assert_eq!(graph[..4], [0x80000000, 0xB0001FFF, 0xC0000000, 0xC0000000]);
+    assert!(zero(&graph[4..]) && zero(&path));
+}
+
+#[test]
+fn b_fade_without_its_first_lemma() {
+    let (verdict, _, path) = judged(&FADE, &FADE_LEMMAS[4..]);
+    let low = Judged::MayRunOff { node: 0, action: 0, variable: 0, high: false, nodes: 1, edges: 2 };
+    assert_eq!(verdict, low);
+    assert!(zero(&path));
+}
+
+#[test]
+fn c_all_multipliers_zero() {
+    assert_eq!(ask(&FADE, &[0x90030000, 0x80000000, 0xA0000000, 0xA0000000], 0), Asked::NotAccepted);
+    assert_eq!(ask(&FADE, &FADE_LEMMAS, 0), Asked::Accepted);
+}
+
+#[test]
+fn house_is_the_show() {
+    assert_eq!(house().words(), show("house").0);
+    assert_eq!(FADE.to_vec(), show("fade").0);
+    assert_eq!(FADE_LEMMAS.to_vec(), show("fade").1);
+}
+
+#[test]
+fn house_with_full_lemmas() {
+    for lemmas in [house_lemmas().concat(), show("house").1] {
+        let (verdict, graph, path) = judged(&house().words(), &lemmas);
+        assert_eq!(verdict, Judged::Safe { nodes: 3, edges: 10 });
+        let none = 0xCFFFFFFF;
+        let expected = [
+            0x8000C000, 0xB0001FFF, 0xC0000001, 0xC0000002, 0xC0000000, 0xC0000000,
+            0x80004002, 0xB0000000, 0xC0000001, none, 0xC0000001, 0xC0000000,
+            0x80008001, 0xB0000001, none, 0xC0000002, 0xC0000000, 0xC0000002,
+        ];
+        assert_eq!(graph[..18], expected);
+        assert!(zero(&graph[18..]) && zero(&path));
+        assert_eq!(successor(&graph, 3, 4, 0, 1), Ok(2));
+        assert_eq!(successor(&graph, 3, 4, 1, 1), Ok(0x0FFFFFFF));
+    }
+}
+
+#[test]
+fn d_house_with_no_lemmas() {
+    let (verdict, graph, path) = judged(&house().words(), &[]);
+    assert_eq!(verdict, Judged::MayForbid { node: 0, bad: 0, nodes: 1, edges: 4 });
+    assert_eq!(graph[..6], [0x80000000, 0xB0001FFF, 0xC0000000, 0xC0000000, 0xC0000000, 0xC0000000]);
+    assert!(zero(&path));
+}
+
+#[test]
+fn e_house_without_action_0_failing_p0() {
+    for list in [house_lemmas(), split_lemmas(&show("house").1)] {
+        let mut list = list;
+        list.remove(house_failing(&list));
+        let (verdict, graph, path) = judged(&house().words(), &list.concat());
+        assert!(matches!(verdict, Judged::MayForbid { node: 1, bad: 0, .. }), "{verdict:?}");
+        assert_eq!(graph[6], 0x80000002);
+        assert_eq!(path[0], 0xD0000000);
+        assert!(zero(&path[1..]));
+    }
+}
+
+#[test]
+fn f_empty_program() {
+    assert_eq!(check(&[]), Err(refusal(2, 0)));
+}
+
+#[test]
+fn g_and_h() {
+    let mut p = FADE.to_vec();
+    p[0] = var_word(7, 7);
+    assert!(check(&p).is_ok());
+    p[0] = var_word(8, 7);
+    assert_eq!(check(&p), Err(refusal(4, 0)));
+    let mut p = FADE.to_vec();
+    for (coefficient, good) in [(1000, true), (1001, false), (-1000, true), (-1001, false), (0, false)] {
+        p[5] = term_word(0, coefficient);
+        assert_eq!(check(&p).is_ok(), good);
+        if !good {
+            assert_eq!(check(&p), Err(refusal(4, 5)));
+        }
+    }
+}
+
+#[test]
+fn counts() {
+    let counts = |v, s, p, a, f| Ok(Counts { variables: v, start_rows: s, predicates: p, actions: a, forbidden: f });
+    assert_eq!(check(&FADE), counts(1, 0, 0, 2, 0));
+    assert_eq!(check(&house().words()), counts(2, 2, 2, 4, 1));
+    assert_eq!(check(&show("rig8").0), counts(8, 8, 8, 16, 3));
+}
+
+#[test]
+fn shows_of_the_readme() {
+    let safe = |nodes, edges| Judged::Safe { nodes, edges };
+    for (name, verdict) in
+        [("fade", safe(1, 2)), ("house", safe(3, 10)), ("bakery", safe(9, 14)), ("rig8", safe(500, 5600))]
+    {
+        let (p, l) = show(name);
+        assert_eq!(judged(&p, &l).0, verdict);
+    }
+    // "words" and "lemmas" of the table
+    let sizes = |name: &str| {
+        let (p, l) = show(name);
+        (p.len() + l.len(), split_lemmas(&l).len())
+    };
+    assert_eq!(sizes("bakery"), (744, 114));
+    assert_eq!(sizes("rig8"), (2008, 346));
+}
+
+#[test]
+fn action_parts() {
+    assert_eq!(action_part(&FADE, 0), &FADE[3..9]);
+    assert_eq!(action_part(&FADE, 1), &FADE[9..15]);
+    assert!(std::ptr::eq(action_part(&FADE, 1), &FADE[9..15]));
+    assert!(action_part(&FADE, 2).is_empty());
+    assert!(action_part(&FADE[..15], 0).is_empty());
+    let home = house().words();
+    assert_eq!(action_part(&home, 3), &[0x60000001, 0x70000001, 0x20000000]);
+}
+
+#[test]
+fn steps() {
+    let mut state = [4];
+    assert_eq!(step(&FADE, 0, &mut state), Stepped::NotEnabled);
+    assert_eq!(state, [4]);
+    state = [5];
+    assert_eq!(step(&FADE, 0, &mut state), Stepped::Moved);
+    assert_eq!(state, [0]);
+    state = [996];
+    assert_eq!(step(&FADE, 1, &mut state), Stepped::NotEnabled);
+    state = [1001];
+    assert_eq!(step(&FADE, 1, &mut state), Stepped::Refused(refusal(10, 0)));
+    assert_eq!(step(&FADE, 2, &mut state), Stepped::Refused(refusal(8, 2)));
+    assert_eq!(step(&FADE, 2, &mut []), Stepped::Refused(refusal(8, 2)));
+    assert_eq!(step(&FADE, 1, &mut []), Stepped::Refused(refusal(9, 0)));
+    assert_eq!(step(&FADE, 1, &mut [2000, 1]), Stepped::Refused(refusal(9, 2)));
+    assert_eq!(step(&FADE[..3], 1, &mut []), Stepped::Refused(refusal(2, 3)));
+    // At once: demo's action 1 is x, y := y + 5, x - 5.
+    let p = demo().words();
+    let mut state = [9, -2];
+    assert_eq!(step(&p, 1, &mut state), Stepped::Moved);
+    assert_eq!(state, [3, 4]);
+    // The lowest variable that runs off; nothing is written.
+    let t = Text {
+        vars: vec![(0, 5); 3],
+        actions: vec![act(&[], &[(0, row(1, &[])), (1, row(1, &[(1, 1)])), (2, row(-1, &[]))])],
+        ..Text::default()
+    };
+    let mut state = [0, 5, 0];
+    assert_eq!(step(&t.words(), 0, &mut state), Stepped::RunsOff(1));
+    assert_eq!(state, [0, 5, 0]);
+    let mut state = [0, 4, 0];
+    assert_eq!(step(&t.words(), 0, &mut state), Stepped::RunsOff(2));
+    assert_eq!(step(&t.words(), 0, &mut [9, 9, 9]), Stepped::Refused(refusal(10, 0)));
+    assert_eq!(step(&t.words(), 0, &mut [0, -1, 9]), Stepped::Refused(refusal(10, 1)));
+}
+
+#[test]
+fn views() {
+    let (_, graph, _) = judged(&FADE, &FADE_LEMMAS);
+    assert_eq!(successor(&graph, 1, 2, 0, 1), Ok(0));
+    assert_eq!(successor(&graph[..4], 1, 2, 0, 1), Ok(0));
+    assert_eq!(successor(&graph[..3], 1, 2, 0, 1), Err(refusal(1, 0)));
+    assert_eq!(successor(&graph, 513, 2, 0, 1), Err(refusal(3, 0)));
+    assert_eq!(successor(&[], 1, 17, 0, 1), Err(refusal(3, 0)));
+    assert_eq!(successor(&[], 1, 0, 0, 1), Err(refusal(1, 0)));
+    assert_eq!(successor(&[], 0, 16, 5, 1), Err(refusal(8, 5)));
+    assert_eq!(successor(&graph, 1, 2, 1, 2), Err(refusal(8, 1)));
+    assert_eq!(successor(&graph, 1, 2, 0, 2), Err(refusal(8, 2)));
+    assert_eq!(successor(&graph, 1, 3, 0, 2), Err(refusal(2, 4)));
+    assert_eq!(successor(&graph, 512, 16, 511, 15), Err(refusal(2, 9215)));
+}
+
+#[test]
+fn the_document_limits() {
+    // 2,665 logic words and 12,800 lemma words are the most.
+    let greatest = cases().into_iter().find(|c| c.name == "greatest program and lemmas").unwrap();
+    assert_eq!(greatest.record.program.len(), 2665);
+    assert_eq!(greatest.record.lemmas.len(), 12800);
+}
+
+/// Every answer worked out by hand; refusals other than 7 leave the lists, 7 zeroes 9,216 words.
+#[test]
+fn hand_answers() {
+    let mut hands = 0;
+    let mut wrong = Vec::new();
+    for case in cases() {
+        let line = answer(&case.record);
+        if let Some(hand) = &case.hand {
+            hands += 1;
+            let head = line.split(" GRAPH").next().unwrap();
+            if head != hand {
+                wrong.push(format!("{}: by hand {hand}, answered {line}", case.name));
+            }
+        }
+        if case.record.call != JUDGE {
+            continue;
+        }
+        let graph = lent_graph(case.record.graph);
+        let path = lent_path(case.record.path);
+        if line.starts_with("REFUSED 7 ") {
+            let mut graph = graph;
+            graph[..9216].fill(0);
+            let tail = format!(" GRAPH {} PATH {}", digest(&graph), digest(&path));
+            assert!(line.ends_with(&tail), "{}: {line}", case.name);
+        } else if line.starts_with("REFUSED ") {
+            let tail = format!(" GRAPH {} PATH {}", digest(&graph), digest(&path));
+            assert!(line.ends_with(&tail), "{}: {line}", case.name);
+        }
+    }
+    println!("{hands} answers by hand");
+    assert!(wrong.is_empty(), "{}", wrong.join("\n"));
+}
+
+#[test]
+fn records_are_within_bounds() {
+    let all = cases();
+    let words: Vec<u32> = all.iter().flat_map(|c| c.record.words()).collect();
+    assert!(words.len() * 4 <= 1_000_000);
+    assert!(all.iter().all(|c| c.record.words().len() <= 16_000));
+    let back = decode(&words).unwrap();
+    assert_eq!(back, all.iter().map(|c| c.record.clone()).collect::<Vec<_>>());
+}
+
+/// The path of the 9-bit counter: 511 steps of action 0.
+#[test]
+fn a_long_path() {
+    let (t, l) = counter(9, &[(0, 511)]);
+    let (verdict, graph, path) = judged(&t.words(), &l);
+    assert_eq!(verdict, Judged::MayForbid { node: 511, bad: 0, nodes: 512, edges: 512 });
+    assert!(path[..511].iter().all(|w| *w == 0xD0000000) && path[511] == 0);
+    assert_eq!(graph[3 * 511], sets_word(0, 511));
+    assert_eq!(graph[3 * 511 + 1], 0xB0000000 | 510 << 4);
+    assert_eq!(graph[3 * 511 + 2], 0xC0000000);
+}
+
+/// The tree: node 8 is found from 6 by action 1, 6 from 4 by 0, 4 from 1 by 1, 1 from 0 by 0.
+#[test]
+fn a_path_by_origins() {
+    let case = cases().into_iter().find(|c| c.name == "tree, 8 forbidden").unwrap();
+    let (_, _, path) = judged(&case.record.program, &case.record.lemmas);
+    assert_eq!(path[..5], [0xD0000000, 0xD0000001, 0xD0000000, 0xD0000001, 0]);
+}
+
+// ---------------------------------------------------------------------------------------------
+// A second, slow reading: no masks, no groups, straight from the sentences; and all states of
+// small programs.
+
+type Slow = Vec<(usize, bool)>;
+
+fn literals_of(l: &Literals) -> Slow {
+    let mut all = Vec::new();
+    for i in 0..14 {
+        if l.known_true >> i & 1 == 1 {
+            all.push((i, true));
+        }
+        if l.known_false >> i & 1 == 1 {
+            all.push((i, false));
+        }
+    }
+    all
+}
+
+fn slow_judge(p: &[u32], words: &[u32]) -> Option<(Judged, Vec<u32>, Vec<u32>)> {
+    let program = program::read(p).ok()?;
+    let lemmas = lemma::read(&program, words).ok()?;
+    let applies = |l: &Lemma, source: Source, node: &Slow| {
+        l.source == source
+            && literals_of(&l.premises).iter().all(|x| node.contains(x))
+            && lemma::weigh(&program, l) == Some(true)
+    };
+    let next = |source: Source, node: &Slow| -> Option<Slow> {
+        let has = |goal: Goal| lemmas.iter().any(|l| l.goal == goal && applies(l, source, node));
+        if has(Goal::Cannot) {
+            return None;
+        }
+        let mut out = Vec::new();
+        for i in 0..program.predicates.len() {
+            match (has(Goal::Holds(i)), has(Goal::Fails(i))) {
+                (true, true) => return None,
+                (true, false) => out.push((i, true)),
+                (false, true) => out.push((i, false)),
+                (false, false) => {}
+            }
+        }
+        Some(out)
+    };
+    let mut nodes: Vec<(Slow, u32, Vec<u32>)> = Vec::new();
+    let mut ways: Vec<Vec<u32>> = Vec::new();
+    if let Some(first) = next(Source::Start, &vec![]) {
+        nodes.push((first, 0x1FFF, vec![]));
+        ways.push(vec![]);
+    }
+    let mut at = 0;
+    while at < nodes.len() {
+        for a in 0..program.actions.len() {
+            let edge = match next(Source::Action(a), &nodes[at].0) {
+                None => 0x0FFFFFFF,
+                Some(set) => match nodes.iter().position(|n| n.0 == set) {
+                    Some(n) => n as u32,
+                    None => {
+                        if nodes.len() == 512 {
+                            return None;
+                        }
+                        nodes.push((set, (at as u32) * 16 + a as u32, vec![]));
+                        let mut way = ways[at].clone();
+                        way.push(0xD000_0000 + a as u32);
+                        ways.push(way);
+                        nodes.len() as u32 - 1
+                    }
+                },
+            };
+            nodes[at].2.push(edge);
+        }
+        at += 1;
+    }
+    let mut graph = Vec::new();
+    let mut edges = 0;
+    for (set, origin, targets) in &nodes {
+        let mut word = 0x8000_0000;
+        for (i, yes) in set {
+            word += if *yes { 1u32 << i } else { 1u32 << (14 + i) };
+        }
+        graph.push(word);
+        graph.push(0xB000_0000 + origin);
+        graph.extend(targets.iter().map(|t| 0xC000_0000 + t));
+        edges += targets.iter().filter(|t| **t != 0x0FFFFFFF).count();
+    }
+    graph.resize(9216, 0);
+    let count = nodes.len();
+    let mut verdict = Judged::Safe { nodes: count, edges };
+    let mut path = vec![];
+    'all: for (n, (set, _, targets)) in nodes.iter().enumerate() {
+        for (bad, combination) in program.forbidden.iter().enumerate() {
+            if !literals_of(combination).iter().any(|(i, yes)| set.contains(&(*i, !*yes))) {
+                verdict = Judged::MayForbid { node: n, bad, nodes: count, edges };
+                path = ways[n].clone();
+                break 'all;
+            }
+        }
+        for (a, target) in targets.iter().enumerate() {
+            for assignment in &program.actions[a].assignments {
+                for high in [false, true] {
+                    let v = assignment.variable;
+                    let goal = if high { Goal::NotAbove(v) } else { Goal::NotBelow(v) };
+                    let shown = lemmas.iter().any(|l| l.goal == goal && applies(l, Source::Action(a), set));
+                    if *target != 0x0FFFFFFF && !shown {
+                        verdict = Judged::MayRunOff { node: n, action: a, variable: v, high, nodes: count, edges };
+                        path = ways[n].clone();
+                        break 'all;
+                    }
+                }
+            }
+        }
+    }
+    path.resize(512, 0);
+    Some((verdict, graph, path))
+}
+
+#[test]
+fn slow_and_fast_agree() {
+    let mut compared = 0;
+    for case in cases() {
+        // rig8 and the large ones are left to the others for time
+        if case.record.call != JUDGE || case.record.lemmas.len() > 1500 {
+            continue;
+        }
+        if let Some(slow) = slow_judge(&case.record.program, &case.record.lemmas) {
+            if slow.1.iter().filter(|w| **w >> 28 == SETS).count() > 200 {
+                continue;
+            }
+            assert_eq!(judged(&case.record.program, &case.record.lemmas), slow, "{}", case.name);
+            compared += 1;
+        }
+    }
+    println!("{compared} compared");
+    assert!(compared > 150);
+}
+
+fn states(program: &Program) -> Vec<Vec<i32>> {
+    let mut all = vec![vec![]];
+    for range in &program.ranges {
+        let mut longer = Vec::new();
+        for state in &all {
+            for value in range.low..=range.high {
+                let mut state: Vec<i32> = state.clone();
+                state.push(value as i32);
+                longer.push(state);
+            }
+        }
+        all = longer;
+    }
+    all
+}
+
+fn meets(program: &Program, l: &Literals, state: &[i32]) -> bool {
+    literals_of(l).iter().all(|(i, yes)| program.predicates[*i].holds(state) == *yes)
+}
+
+/// Accepted lemmas are true in all states; safe programs neither run off nor reach a forbidden state.
+#[test]
+fn accepted_is_true_and_safe_is_safe() {
+    let (mut accepted, mut safe, mut false_ones) = (0, 0, 0);
+    for seed in 0..600 {
+        let (t, words) = small(seed);
+        let p = t.words();
+        let program = program::read(&p).unwrap();
+        let all = states(&program);
+        for (k, l) in lemma::read(&program, &words).unwrap().iter().enumerate() {
+            let truth = all.iter().all(|state| {
+                let (before, after): (bool, Vec<i64>) = match l.source {
+                    Source::Start => {
+                        (program.start.iter().all(|r| r.holds(state)), state.iter().map(|v| i64::from(*v)).collect())
+                    }
+                    Source::Action(a) => {
+                        let action = &program.actions[a];
+                        let value = |v: usize| match action.assigned(v) {
+                            Some(r) => r.value(state),
+                            None => i64::from(state[v]),
+                        };
+                        (action.guards.iter().all(|r| r.holds(state)), (0..state.len()).map(value).collect())
+                    }
+                };
+                if !before || !meets(&program, &l.premises, state) {
+                    return true;
+                }
+                let after32: Vec<i32> = after.iter().map(|v| *v as i32).collect();
+                match l.goal {
+                    Goal::Cannot => false,
+                    Goal::Holds(i) => program.predicates[i].holds(&after32),
+                    Goal::Fails(i) => !program.predicates[i].holds(&after32),
+                    Goal::NotBelow(v) => after[v] >= program.ranges[v].low,
+                    Goal::NotAbove(v) => after[v] <= program.ranges[v].high,
+                }
+            });
+            match ask(&p, &words, k) {
+                Asked::Accepted => {
+                    accepted += 1;
+                    assert!(truth, "seed {seed} lemma {k}");
+                }
+                Asked::NotAccepted => false_ones += u32::from(!truth),
+                Asked::Refused(r) => panic!("{r:?}"),
+            }
+        }
+        if !matches!(judged(&p, &words).0, Judged::Safe { .. }) {
+            continue;
+        }
+        safe += 1;
+        let mut reached: std::collections::HashSet<Vec<i32>> = std::collections::HashSet::new();
+        let mut todo: Vec<Vec<i32>> =
+            all.into_iter().filter(|s| program.start.iter().all(|r| r.holds(s))).collect();
+        while let Some(state) = todo.pop() {
+            if !reached.insert(state.clone()) {
+                continue;
+            }
+            assert!(!program.forbidden.iter().any(|c| meets(&program, c, &state)), "seed {seed} {state:?}");
+            for a in 0..program.actions.len() {
+                let mut next = state.clone();
+                match step(&p, a, &mut next) {
+                    Stepped::Moved => todo.push(next),
+                    Stepped::NotEnabled => {}
+                    other => panic!("seed {seed} {state:?} action {a}: {other:?}"),
+                }
+            }
+        }
+    }
+    println!("{accepted} accepted, {false_ones} false and not accepted, {safe} safe programs");
+    assert!(accepted > 1000 && safe > 30 && false_ones > 100);
+}
