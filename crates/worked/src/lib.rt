@@ -1,0 +1,1 @@
+// No code: proofs/Table.antt is the table of the worked shows.
