@@ -18,7 +18,7 @@ use Rattle.lemmas.proofs.LemmaLaws.{sets-known, action-rising}
 use Rattle.sets.specs.Sets.{bitOf}
 use Rattle.gather.specs.Gathering.{Claim, placeOf, Goal, cannot, holds, fails, low-end, high-end, Sound, entryOf, gathered, Some}
 use Rattle.gather.proofs.Shown.{never, Shows, shown-by}
-use Rattle.gather.proofs.Successors.{or-cases}
+use Rattle.integers.proofs.Tests.{or-cases}
 use Rattle.abstraction.specs.Abstraction.{literalsIn, allAmong, lemmaApplies, applies}
 use Rattle.abstraction.specs.Claims.{claimOf, withClaim, claims}
 use Rattle.abstraction.proofs.Literals.{subset-is}

@@ -14,7 +14,7 @@ use Rattle.runs.specs.Runs.{has}
 use Rattle.formula.specs.Formula.{Literal, B, NotB}
 use Rattle.search.proofs.Count.{lt-or-le}
 use Rattle.gather.proofs.Shown.{never}
-use Rattle.gather.proofs.Successors.{or-cases}
+use Rattle.integers.proofs.Tests.{or-cases}
 use Rattle.abstraction.specs.Abstraction.{literalIf, literalsIn, sameLiteral, among, allAmong, setOf}
 
 -- ---- the tests are membership

@@ -12,6 +12,7 @@ use lib.Seq.{sets}
 use borrow.Author.Tests.{ltb-true, eqb-true}
 use mir.Syntax.{w64}
 use mir.Val.{SFits}
+use Rattle.integers.proofs.Tests.{false-true}
 use Rattle.integers.proofs.Laws.{Within, within-fits, within-weaken, sum, opposite, literal}
 use Rattle.words.specs.Words.{word, MULT}
 use Rattle.rows.specs.declared.Row.{Row}
@@ -31,7 +32,7 @@ use Rattle.sums.specs.Fits.{Single}
 use Rattle.acceptance.specs.Adding.{multOf}
 use Rattle.lemmas.specs.Lemmas.{predicate, range, newRows, negatedGoal}
 use Rattle.lemmas.specs.LemmaGrammar.{goalAllowed, setsVariable, encodeMultiplier}
-use Rattle.lemmas.proofs.LemmaLaws.{sets-known, action-rising, false-true}
+use Rattle.lemmas.proofs.LemmaLaws.{sets-known, action-rising}
 use Rattle.ask.specs.Weighing.{endRow, goalRow, refuted}
 
 -- ---- multipliers

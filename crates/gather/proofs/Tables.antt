@@ -54,7 +54,7 @@ entries-kept ps ks n p k zero h = refl
 entries-kept ps ks n p k (suc m) h =
     rw (entries-kept ps ks n p k m (omega arith), getD-set-other ps n m p 0 (λ e. omega arith), getD-set-other ks n m k 0 (λ e. omega arith))
 
-pub entries-push : (ps ks : List ℕ) (n p k : ℕ) → n < length ps → n < length ks → entries (set ps n p) (set ks n k) (n + 1) ≡ entries ps ks n ++ (record { premises = p; key = k } ∷ [])
+entries-push : (ps ks : List ℕ) (n p k : ℕ) → n < length ps → n < length ks → entries (set ps n p) (set ks n k) (n + 1) ≡ entries ps ks n ++ (record { premises = p; key = k } ∷ [])
 unfolding entries
 entries-push ps ks n p k h l = rw (add-one, entries-kept ps ks n p k n (omega arith), getD-set-same ps n p 0 h, getD-set-same ks n k 0 l)
 

@@ -1,14 +1,14 @@
 -- A lemma and its words: reading the words of well-formed lemmas gives them, and an accepted list is the words of what was read.
 use mathlib.Core.Path.{_≡_, refl, sym, ap, _∙_, subst}
-use mathlib.Core.Bool.{Bool, true, false, _&&_, _||_}
-use mathlib.Core.Logic.{_⊎_, inl, inr, ⊎-elim}
+use mathlib.Core.Bool.{Bool, true, false, _&&_}
+use mathlib.Core.Logic.{_⊎_, ⊎-elim}
 use mathlib.Core.List.{List, [], _∷_, _++_, append-nil}
 use Prim.Native.Nat.{ℕ, zero, suc, _+_, _*_, _^_, _≤_, _<_, _/_}
 use native.Mathlib.Omega.{arith}
 use lib.Dec.{eqb, ltb, leb}
 use lib.ListN.{length, getD}
 use borrow.Author.Tests.{eqb-true, ltb-true, leb-true, le-leb}
-use Rattle.integers.proofs.Tests.{and-true}
+use Rattle.integers.proofs.Tests.{and-true, or-true, false-true}
 use Rattle.words.specs.Words.{bits, kindOf, payload, word, LEMMA, SETS, MULT, TERM}
 use Rattle.words.proofs.Laws.{kind-word, payload-word, word-split}
 use Rattle.grammar.specs.Reading.{Read, got, refused, one, always, begins, times, many}
@@ -40,13 +40,6 @@ mult-codec =
     }
 
 -- ---- the numbers of a well-formed lemma fit their fields
-pub or-true : (a b : Bool) → (a || b) ≡ true → (a ≡ true) ⊎ (b ≡ true)
-or-true true b e = inl refl
-or-true false b e = inr e
-
-pub false-true : {P : Type 0} → false ≡ true → P
-false-true e = let z : _≡_ {A = ℕ} 0 1 = cc in absurd (omega arith)
-
 pub sets-known : (vars v : ℕ) (ss : List Assignment) (i : ℕ) → Rising vars v ss → setsVariable ss i ≡ true → i < vars
 unfolding setsVariable
 sets-known vars v [] i r e = false-true e

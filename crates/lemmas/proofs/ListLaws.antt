@@ -92,9 +92,6 @@ module _ (p : Program) (room : Bool) (ls : List ℕ) (at : ℕ) where
   head-stopped {r} e = rw (head-refused LEMMA always (λ x. room) (headAllowed p) ls at at r e) refl
 
   module _ {i : ℕ} (h : readHead ≡ At i) where
-    pub head-within : at < length ls
-    head-within = head-taken LEMMA always (λ x. room) (headAllowed p) ls at at i h .0
-
     head-got : one LEMMA always (λ x. room) (headAllowed p) (drop at ls) at ≡ got first (drop (at + 1) ls) (at + 1)
     head-got = head-taken LEMMA always (λ x. room) (headAllowed p) ls at at i h .2
 

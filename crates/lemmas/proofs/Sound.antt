@@ -9,7 +9,7 @@ use lib.IntN.{ℤ, pos, negsuc, negℤ}
 use lib.ListN.{length, getD, set, length-map}
 use lib.Signed.{leZ, ltZ, _≤ℤ_, clashℤ}
 use Rattle.integers.proofs.Int.{var, num, _⊕_, _⊗_, ⊖, below, law, le-in}
-use Rattle.integers.proofs.Tests.{ltZ-true, leZ-true, leZ-false, le-leZ, and-true}
+use Rattle.integers.proofs.Tests.{ltZ-true, leZ-true, leZ-false, le-leZ, and-true, false-true}
 use Rattle.rows.specs.declared.Row.{Row}
 use Rattle.rows.specs.declared.Range.{Range}
 use Rattle.rows.specs.Rows.{rowValue, Holds, negated, largestValue, InRanges, in-none, in-one}
@@ -29,7 +29,7 @@ use Rattle.sums.proofs.Laws.{Eights, Hold, after-value, after-long, sum-holds, 
 use Rattle.lemmas.specs.Lemmas.{Lemma, START, sourceRows, newRows, predicate, range, aboveLow, belowHigh, negatedGoal, accepted}
 use Rattle.lemmas.specs.LemmaGrammar.{goalAllowed, setsVariable, LemmaOk}
 use Rattle.lemmas.specs.Truth.{happens, Claim, True}
-use Rattle.lemmas.proofs.LemmaLaws.{false-true, sets-known}
+use Rattle.lemmas.proofs.LemmaLaws.{sets-known}
 
 -- ---- a state on its ranges
 in-ranges : (gs : List Range) (s : List ℤ) → length s ≡ length gs → length gs ≤ lowestOff gs s → InRanges gs s

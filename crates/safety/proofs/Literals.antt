@@ -11,7 +11,7 @@ use lib.IntN.{ℤ, pos}
 use lib.Signed.{clashℤ}
 use lib.ListN.{length, getD}
 use borrow.Author.Tests.{eqb-true}
-use Rattle.integers.proofs.Tests.{and-true, leZ-true, leZ-false, le-leZ}
+use Rattle.integers.proofs.Tests.{and-true, leZ-true, leZ-false, le-leZ, or-true, false-true}
 use Rattle.words.specs.declared.Literals.{Literals}
 use Rattle.rows.specs.declared.Row.{Row}
 use Rattle.rows.specs.Rows.{rowValue, negated}
@@ -21,7 +21,6 @@ use Rattle.grammar.specs.WellFormed.{Each}
 use Rattle.runs.specs.Runs.{holds, allHold, has, rowIf, literalRows, meets}
 use Rattle.sums.specs.Sums.{constRow}
 use Rattle.lemmas.specs.Lemmas.{predicate}
-use Rattle.lemmas.proofs.LemmaLaws.{or-true, false-true}
 use Rattle.lemmas.proofs.Sound.{fails}
 use Rattle.formula.specs.Formula.{Literal, B, NotB}
 use Rattle.abstraction.specs.Abstraction.{literalIf, literalsIn, sameLiteral, among, allAmong}

@@ -9,14 +9,13 @@ use lib.Dec.{eqb}
 use lib.IntN.{ℤ}
 use lib.ListN.{length}
 use borrow.Author.Tests.{eqb-true}
-use Rattle.integers.proofs.Tests.{and-true}
+use Rattle.integers.proofs.Tests.{and-true, or-true, false-true}
 use Rattle.grammar.specs.Programs.{Program}
 use Rattle.grammar.specs.WellFormed.{Each, WellFormed}
 use Rattle.runs.specs.Runs.{Inside, assigned, actionOf}
 use Rattle.lemmas.specs.Lemmas.{Lemma, predicate, accepted}
 use Rattle.lemmas.specs.LemmaGrammar.{LemmaOk}
 use Rattle.lemmas.specs.Truth.{happens, Claim}
-use Rattle.lemmas.proofs.LemmaLaws.{or-true, false-true}
 use Rattle.lemmas.proofs.Sound.{accepted-true}
 use Rattle.formula.specs.Formula.{Literal, B, NotB, Monomial, False, And, Fact, Then, and, conjunct, conjuncts}
 use Rattle.abstraction.specs.Abstraction.{literalsIn, allAmong, lemmaApplies, applies, shown, successor}

@@ -1,6 +1,4 @@
--- The paths along the origins, with g the graph that the exploration ends with:
---     back-walks, path-goes   a node's path is a walk from the start to its word, in either order
---     path-in-graph           and it leads along the graph's edges from node 0 to the node
+-- The paths along the origins, with g the graph that the exploration ends with: a node's path leads along the graph's edges from node 0 to it.
 use Prim.Native.Nat.{ℕ, zero, suc, _<_, _≤_}
 use native.Mathlib.Omega.{arith}
 use mathlib.Core.Path.{_≡_, refl, sym, ap, _∙_}
@@ -29,24 +27,7 @@ walk-along (stand e) = e
 walk-along {start} {next} (step {js = js} {j = j} walk h e) = rw (reverse-cons j js, along-append next start (reverse js) (j ∷ []), walk-along walk) e
 
 module _ (start : Answer) (next : ℕ → ℕ → Answer) (a limit : ℕ) (g : Graph) (v : Whole start next a limit g) where
-  pub back-walks : (f k : ℕ) → k ≤ f → k < count g → Walk start next a (back (g .origins) f k) (nodeWord g k)
-  unfolding back
-  back-walks zero k le h = go (origin g k) (v .comes k h)
-    where
-      go : (o : Origin) → Comes start next a (g .words) k o → Walk start next a [] (nodeWord g k)
-      go Root c = stand (c .1)
-      go (From p j) c = absurd (omega arith)
-  back-walks (suc f) k le h = go (origin g k) (v .comes k h) (back-walks f)
-    where
-      go : (o : Origin) → Comes start next a (g .words) k o → ((p : ℕ) → p ≤ f → p < count g → Walk start next a (back (g .origins) f p) (nodeWord g p))
-          → Walk start next a (hop o (back (g .origins) f)) (nodeWord g k)
-      go Root c ih = stand (c .1)
-      go (From p j) c ih = step (ih p (omega arith) (omega arith)) (c .1) (c .2)
-
-  pub path-goes : (f k : ℕ) → k ≤ f → k < count g → along next start (path (g .origins) f k) ≡ To (nodeWord g k)
-  path-goes f k le h = walk-along (back-walks f k le h)
-
-  -- the same walk by node numbers
+  -- the path is a walk by node numbers
   back-in-graph : (f k : ℕ) → k ≤ f → k < count g → Walk (To 0) (edge a g) a (back (g .origins) f k) k
   unfolding back
   back-in-graph zero k le h = let z : 0 ≡ k = omega arith in stand (ap To z)

@@ -1,7 +1,7 @@
 -- The loop that weighs the lemmas: k are weighed, and the n accepted ones of them are in the tables.
 use mathlib.Core.Path.{_≡_, refl, sym, ap, _∙_}
 use mathlib.Core.Bool.{Bool, true, false, cond}
-use mathlib.Core.List.{List, [], _∷_, _++_, map, map-append, append-nil}
+use mathlib.Core.List.{List, [], _∷_, _++_, map, append-nil}
 use Prim.Native.Nat.{ℕ, suc, _+_, _*_, _≤_, _<_}
 use native.Mathlib.Omega.{arith}
 use native.Mathlib.Numerals.{add-one}
@@ -22,7 +22,7 @@ use Rattle.ask.specs.Calls.{noLemma}
 use Rattle.ask.specs.Weighing.{theLemma}
 use Rattle.ask.proofs.Weighs.{fields}
 use Rattle.gather.specs.Gathering.{placeOf, entryOf, entries}
-use Rattle.gather.proofs.Tables.{entries-kept, entries-push}
+use Rattle.gather.proofs.Tables.{entries-kept, lemmas-push}
 use Rattle.gather.specs.Gathering.{Claim}
 use Rattle.abstraction.specs.Claims.{claimOf, withClaim, claims}
 use Rattle.tables.specs.Tabled.{firstOff, Begun, Tabled}
@@ -55,7 +55,7 @@ claims-snoc p (x ∷ ls) l = ap (withClaim (accepted p x) (claimOf x)) (claims-s
 -- a claim written behind n entries, and counted or not
 written : (ps ks : List ℕ) (n : ℕ) (c : Claim) (cs : List Claim) (b : Bool) → n < length ps → n < length ks → entries ps ks n ≡ map entryOf cs
     → entries (set ps n (c .premises)) (set ks n (c .source * 64 + placeOf (c .goal) (c .index))) (n + oneIf b) ≡ map entryOf (cs ++ withClaim b c [])
-written ps ks n c cs true h l e = entries-push ps ks n (c .premises) (c .source * 64 + placeOf (c .goal) (c .index)) h l ∙ rw e (sym (map-append entryOf cs (c ∷ [])))
+written ps ks n c cs true h l e = lemmas-push ps ks cs c n h l e
 written ps ks n c cs false h l e =
     rw (add-zero n, append-nil cs) (entries-kept ps ks n (c .premises) (c .source * 64 + placeOf (c .goal) (c .index)) n (omega arith) ∙ e)
 

@@ -14,6 +14,7 @@ use lib.Dec.{ltb}
 use lib.ListN.{length, getD, drop, drop-of-length-le}
 use lib.Seq.{drop-cons}
 use borrow.Author.Tests.{eqb-true, eq-eqb, lt-ltb, le-ltb}
+use Rattle.integers.proofs.Tests.{or-true}
 use Rattle.words.specs.Words.{noLiterals}
 use Rattle.words.specs.declared.Literals.{Literals}
 use Rattle.grammar.specs.WellFormed.{Each, LiteralsOk}
@@ -27,10 +28,6 @@ use Rattle.abstraction.specs.Abstraction.{literalIf, literalsIn, sameLiteral, a
 use Rattle.verdict.specs.Verdicts.{Finding, Forbid, opposite, contradicted, forbids}
 use Rattle.verdict.specs.declared.Found.the-variants.{Forbid as MayForbid}
 use Rattle.verdict.specs.Working.{foundOf, firstFree}
-
-pub or-cases : (a b : Bool) → (a || b) ≡ true → (a ≡ true) ⊎ (b ≡ true)
-or-cases true b h = inl refl
-or-cases false b h = inr h
 
 pub or-right : (a b : Bool) → b ≡ true → (a || b) ≡ true
 or-right true b h = refl
@@ -65,8 +62,8 @@ module _ (f : Literal → Bool) where
   some-append [] ys = (λ h. inr h, λ s. ⊎-elim (λ h. never h) (λ h. h) s)
   some-append (x ∷ xs) ys =
       let (to, back) = some-append xs ys in (
-        λ h. ⊎-elim (λ e. inl (rw e refl)) (λ e. ⊎-elim (λ q. inl (or-right (f x) (some f xs) q)) (λ q. inr q) (to e)) (or-cases (f x) (some f (xs ++ ys)) h),
-        λ s. ⊎-elim (λ h. ⊎-elim (λ e. rw e refl) (λ e. or-right (f x) (some f (xs ++ ys)) (back (inl e))) (or-cases (f x) (some f xs) h))
+        λ h. ⊎-elim (λ e. inl (rw e refl)) (λ e. ⊎-elim (λ q. inl (or-right (f x) (some f xs) q)) (λ q. inr q) (to e)) (or-true (f x) (some f (xs ++ ys)) h),
+        λ s. ⊎-elim (λ h. ⊎-elim (λ e. rw e refl) (λ e. or-right (f x) (some f (xs ++ ys)) (back (inl e))) (or-true (f x) (some f xs) h))
             (λ h. or-right (f x) (some f (xs ++ ys)) (back (inr h))) s,
       )
 
@@ -75,7 +72,7 @@ module _ (f : Literal → Bool) where
   some-if j set l = (go (has j set) refl, λ w. rw (eq-eqb _ 1 (w .0), w .1) refl)
     where
       go : (b : Bool) → has j set ≡ b → some f (literalIf b l) ≡ true → Member j set × (f l ≡ true)
-      go true e h = (eqb-true _ 1 e, ⊎-elim (λ q. q) (λ q. never q) (or-cases (f l) false h))
+      go true e h = (eqb-true _ 1 e, ⊎-elim (λ q. q) (λ q. never q) (or-true (f l) false h))
       go false e h = never h
 
   -- of the predicates below n

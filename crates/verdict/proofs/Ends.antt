@@ -12,6 +12,7 @@ use native.Mathlib.Nat.{eq-or-lt-of-le, le-of-suc-le-suc}
 use lib.Dec.{eqb}
 use lib.ListN.{length, getD}
 use borrow.Author.Tests.{eqb-true, eq-eqb, ne-eqb, lt-ltb, le-ltb}
+use Rattle.integers.proofs.Tests.{or-true}
 use Rattle.grammar.specs.Programs.{Assignment, Action, Program}
 use Rattle.grammar.specs.WellFormed.{Rising, WellFormed}
 use Rattle.actions.specs.Results.{marked, noMarks}
@@ -30,7 +31,7 @@ use Rattle.verdict.specs.Verdicts.{Finding, ends}
 use Rattle.verdict.specs.declared.Found.the-variants.{Nothing}
 use Rattle.verdict.specs.declared.Found.the-variants.{RunOff as MayRunOff}
 use Rattle.verdict.specs.Working.{endsTo, endsOf, foundOf, endAt, firstOff}
-use Rattle.verdict.proofs.Combinations.{or-cases, or-right}
+use Rattle.verdict.proofs.Combinations.{or-right}
 
 -- ---- the loop over the actions
 module _ (leads : ℕ → Bool) (asked shown : List ℕ) (k n j : ℕ) (same : firstOff leads asked shown k j (n - j) ≡ firstOff leads asked shown k 0 n) where
@@ -85,7 +86,7 @@ rising-within vars v (s ∷ ss) u r e =
     let from = r .0 .from in
     let below = r .0 .below in
     ⊎-elim (λ q. let same = eqb-true (s .variable) u q in (omega arith, omega arith))
-    (λ q. let (a, b) = rising-within vars (suc (s .variable)) ss u (r .1) q in (omega arith, b)) (or-cases (eqb (s .variable) u) (setsVariable ss u) e)
+    (λ q. let (a, b) = rising-within vars (suc (s .variable)) ss u (r .1) q in (omega arith, b)) (or-true (eqb (s .variable) u) (setsVariable ss u) e)
 
 -- a place of m, missing
 Miss : (ℕ → ℕ → Bool) → List Assignment → ℕ → Type 0
@@ -129,7 +130,7 @@ module _ (shows : ℕ → ℕ → Bool) (k j m vars : ℕ) (few : vars ≤ 8) (r
         ⊎-elim
         (λ lt. let (u, e, w) = f .at lt in
         ⊎-elim (λ same. stops lt (rw same at w))
-        (λ other. let in-rest : setsVariable ss u ≡ true = ⊎-elim (λ q. absurd (other (sym (eqb-true (s .variable) u q)))) (λ q. q) (or-cases (eqb (s .variable) u) (setsVariable ss u) e) in
+        (λ other. let in-rest : setsVariable ss u ≡ true = ⊎-elim (λ q. absurd (other (sym (eqb-true (s .variable) u q)))) (λ q. q) (or-true (eqb (s .variable) u) (setsVariable ss u) e) in
         let later = rising-within vars (suc (s .variable)) ss u (r .1) in-rest in
         passed (⊎-elim (λ q. omega (arith, later, q .0)) (λ q. omega (arith, later, q .0)) w) (λ l. (u, in-rest, w))) (eq-or-ne u (s .variable)))
         (λ le. passed (omega arith) (λ lt. absurd (omega arith))) (lt-or-le m 64)
