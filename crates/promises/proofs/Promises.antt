@@ -7,18 +7,13 @@
 --   ask::ask(words, lemmas, k)         r ≡ ask words lemmas k; r ≡ Accepted → TrueIn (read words) lemmas k    crates/ask/src/lib.rt
 --   judge::judge(words, lemmas, g, p)  r, g and p at exit are those of judge words lemmas g p; Demand2Of and WalksOf (read words) lemmas;
 --                                      r ≡ Safe n e → SafeOf (read words)                                     crates/judge/src/lib.rt
+--   view::successor_of(g, n, a, k, j)  r ≡ viewed g n a k j, and so say View::new and View::successor         crates/view/src/lib.rt
 use mathlib.Core.Path.{_≡_}
-use mathlib.Core.Logic.{_↔_}
 use mathlib.Core.Bool.{true}
 use mathlib.Core.List.{List, [], _∷_}
 use Prim.Native.Nat.{ℕ, _<_}
 use lib.ListN.{length}
 use lib.IntN.{ℤ, pos}
-use lib.Signed.{_≤ℤ_}
-use Rattle.rows.specs.declared.Row.{Row}
-use Rattle.rows.specs.declared.Range.{Range}
-use Rattle.rows.specs.Rows.{rowValue, Holds, negated, largestValue, InRanges}
-use Rattle.rows.proofs.Laws.{negation, largest-is}
 use Rattle.grammar.specs.Reading.{got}
 use Rattle.grammar.specs.Programs.{Program}
 use Rattle.grammar.specs.Grammar.{program}
@@ -36,13 +31,17 @@ use Rattle.lemmas.specs.LemmaGrammar.{readLemmas, encodeLemma, LemmaOk}
 use Rattle.lemmas.specs.Truth.{True}
 use Rattle.lemmas.proofs.LemmaLaws.{lemmas-accepted, lemmas-encoded}
 use Rattle.lemmas.proofs.Sound.{accepted-true}
-use Rattle.abstraction.specs.Abstraction.{graph}
+use Rattle.search.specs.Search.{Graph, Done, count, edge}
+use Rattle.records.specs.Records.{graphList}
+use Rattle.abstraction.specs.Abstraction.{start, answer, graph}
 use Rattle.abstraction.specs.Faithful.{Demand2}
 use Rattle.abstraction.proofs.Demand2.{demand2}
 use Rattle.judge.specs.declared.Judged.the-variants.{Safe as IsSafe}
 use Rattle.judge.specs.Calls.{judge, SafeOf, WalksOf}
 use Rattle.judge.proofs.Promised.{judge-safe}
-use Rattle.judge.proofs.Walks.{judge-walks}
+use Rattle.judge.proofs.Walks.{judge-walks, next}
+use Rattle.view.specs.Views.{viewed, shown}
+use Rattle.view.proofs.Graphs.{search-viewed}
 
 -- two Step calls in a row, neither of which runs off, are the run of the two actions
 pub steps-are-runs : (ws : List ℕ) (p : Program) {us : List ℕ} {i : ℕ} → read ws ≡ got p us i → (j k : ℕ) (s : List ℤ) → j < length (p .actions) → k < length (p .actions) → Inside p s
@@ -56,14 +55,6 @@ start-states = (fade-starts, house-starts)
 
 pub incident-is-unsafe : Safe incident → ⊥
 incident-is-unsafe = incident-unsafe
-
--- a row's negation holds exactly where the row does not
-pub negation-opposes : (r : Row) (s : List ℤ) → Holds (negated r) s ↔ (Holds r s → ⊥)
-negation-opposes = negation
-
--- no state in the ranges has a larger value than the largest value
-pub largest-bounds : (r : Row) {gs : List Range} {s : List ℤ} → InRanges gs s → rowValue r s ≤ℤ largestValue r gs
-largest-bounds r h = largest-is r h
 
 -- reading the words of a well-formed program gives the program
 pub read-encode : (p : Program) → WellFormed p → (j : ℕ) × (program (encode p) 0 ≡ got p [] j)
@@ -99,3 +90,8 @@ path-walks = judge-walks
 -- it says something: of a logic that takes 10 off a level of 5 no lemma list gets the verdict safe
 pub incident-never-safe : (ws lemmas gl pl : List ℕ) {us : List ℕ} {i : ℕ} → read ws ≡ got incident us i → (n e : ℕ) → judge ws lemmas gl pl .answer ≡ IsSafe n e → ⊥
 incident-never-safe ws lemmas gl pl q n e h = incident-unsafe (rw q at (judge-safe ws lemmas gl pl h))
+
+-- the view over a list that Judge has filled, with its counts, says what the graph says
+pub view-of-graph : (p : Program) → WellFormed p → (ls : List Lemma) (g : Graph) (l₀ : List ℕ) (k j : ℕ) → graph p ls ≡ Done g → k < count g → j < length (p .actions)
+    → viewed (graphList (length (p .actions)) (graph p ls) l₀) (count g) (length (p .actions)) k j ≡ shown (edge (length (p .actions)) g k j)
+view-of-graph p ok ls g l₀ k j e h l = search-viewed (answer (start p ls)) (next p ls) (length (p .actions)) g l₀ k j e (ok .actions .few) h l

@@ -1,9 +1,7 @@
 -- A view over the list of a whole graph, asked for a node and an action of it:
 --     graph-viewed               the answer is the graph's edge
---     node-viewed, none-viewed   it is a node exactly where the edge leads there, and none exactly where there is no edge
 --     search-viewed              the same of the graph that a search ends with
 use mathlib.Core.Path.{_≡_, refl, sym, ap, _∙_}
-use mathlib.Core.Logic.{_↔_}
 use mathlib.Core.Bool.{false}
 use mathlib.Core.List.{List, _++_}
 use Prim.Native.Nat.{ℕ, _-_, _<_, _≤_}
@@ -18,7 +16,6 @@ use Rattle.search.proofs.Sound.{Leads}
 use Rattle.search.proofs.Theorem.{to-inj, not-none, whole}
 use Rattle.records.specs.Records.{EDGE, edgeWord, mostNodes, graphWords, recordPlace, edgePlace, recordsOf, graphList}
 use Rattle.records.proofs.Listed.{records-length, edge-at}
-use Rattle.view.specs.declared.Viewed.the-variants.{Node, None}
 use Rattle.view.specs.Views.{noNode, edgeOf, viewed, shown}
 use Rattle.view.proofs.Reading.{word-there}
 
@@ -32,27 +29,13 @@ edge-read (To m) p low =
     rw (kind, node, some)
 edge-read Nowhere p low = refl
 
-shown-node : (e : Answer) (m : ℕ) → shown e ≡ Node m → e ≡ To m
-shown-node (To k) m q = cc
-shown-node Nowhere m q = cc
-
-shown-none : (e : Answer) → shown e ≡ None → e ≡ Nowhere
-shown-none (To k) q = cc
-shown-none Nowhere q = refl
-
 module _ (a : ℕ) (g : Graph) (l₀ : List ℕ) (k j : ℕ) (few : count g ≤ mostNodes) (ha : a ≤ 16) (hk : k < count g) (hj : j < a) (low : (m : ℕ) → edge a g k j ≡ To m → m < noNode) where
-  pub graph-viewed : viewed (graphList a (Done g) l₀) (count g) a k j ≡ shown (edge a g k j)
+  graph-viewed : viewed (graphList a (Done g) l₀) (count g) a k j ≡ shown (edge a g k j)
   graph-viewed =
       let rest = replicate (graphWords - recordPlace a (count g)) 0 ++ drop graphWords l₀ in
       let long : recordPlace a (count g) ≤ length (graphList a (Done g) l₀) = omega (arith, length-append (recordsOf a g (count g)) rest, records-length a g (count g)) in
       word-there (graphList a (Done g) l₀) (count g) a k j long hk hj few ha
       ∙ ap (λ (w : ℕ). edgeOf w (edgePlace a k j)) (edge-at a g (count g) rest k j hk hj) ∙ edge-read (edge a g k j) (edgePlace a k j) low
-
-  pub node-viewed : (m : ℕ) → (viewed (graphList a (Done g) l₀) (count g) a k j ≡ Node m) ↔ (edge a g k j ≡ To m)
-  node-viewed m = (λ q. shown-node (edge a g k j) m (sym graph-viewed ∙ q), λ q. graph-viewed ∙ ap shown q)
-
-  pub none-viewed : (viewed (graphList a (Done g) l₀) (count g) a k j ≡ None) ↔ (edge a g k j ≡ Nowhere)
-  none-viewed = (λ q. shown-none (edge a g k j) (sym graph-viewed ∙ q), λ q. graph-viewed ∙ ap shown q)
 
 -- an edge that leads to a node names one below the limit
 leads-low : (next : ℕ → ℕ → Answer) (g : Graph) (k j : ℕ) (e : Answer) → count g ≤ mostNodes → Leads next (g .words) k j e → (m : ℕ) → e ≡ To m → m < noNode
