@@ -13,7 +13,7 @@ use Rattle.lemmas.specs.Lemmas.{Lemma}
 use Rattle.lemmas.specs.LemmaGrammar.{LemmaOk}
 use Rattle.formula.specs.Formula.{Literal, Monomial, False, And}
 use Rattle.search.specs.Search.{Answer, To, None, Origin, Root, From, Graph, Result, Done, Over, seek, count, nodeWord, origin, edge}
-use Rattle.search.specs.Reach.{Distinct, AllOf, Many}
+use Rattle.search.proofs.Reach.{Distinct, AllOf, Many}
 use Rattle.search.proofs.Count.{lt-or-le, row-below, seek-found}
 use Rattle.search.proofs.Sound.{Comes}
 use Rattle.search.proofs.Sound.{Leads as LeadsBy}

@@ -14,7 +14,7 @@ use Rattle.gather.specs.declared.Successor.{Successor}
 use Rattle.gather.specs.declared.Successor.the-variants.{Nothing, Set}
 use Rattle.formula.specs.Formula.{Literal, Monomial, False, And, at-start, after}
 use Rattle.search.specs.Search.{To}
-use Rattle.search.specs.Reach.{Reach, first, onward}
+use Rattle.search.proofs.Reach.{Reach, first, onward}
 use Rattle.search.proofs.Theorem.{to-inj, not-none}
 use Rattle.abstraction.specs.Abstraction.{literalsIn, successor, start, setOf, answer}
 use Rattle.abstraction.specs.Faithful.{ReachableIn}

@@ -14,10 +14,10 @@ use lib.Seq.{drop-at, drop-set-lt}
 use Rattle.search.specs.Search.{Answer, To, None, Root, Graph, Result, Done, Over, count, links, linksIn, empty, turns, node, run, explored}
 use Rattle.search.proofs.Theorem as theorem
 use Rattle.search.proofs.Steps.{explored-over, explored-done}
-use Rattle.records.specs.Records.{mostNodes, graphWords, originWord, stride, recordPlace, column, recordsOf, graphList, exploredOf}
+use Rattle.records.specs.Records.{mostNodes, graphWords, originWord, stride, recordPlace, recordsOf, graphList, exploredOf}
 use Rattle.records.specs.declared.Explored.{Explored}
 use Rattle.records.specs.declared.Explored.the-variants.{Whole, Full}
-use Rattle.records.specs.Steps.{Kept, Mid, Fair, Turned, Filled}
+use Rattle.records.specs.Steps.{column, Kept, Mid, Fair, Turned, Filled}
 use Rattle.records.proofs.Places.{most, zeros-left}
 use Rattle.records.proofs.Stores.{kept-stored}
 use Rattle.records.proofs.Listed.{listed}

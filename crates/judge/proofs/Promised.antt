@@ -25,12 +25,12 @@ use Rattle.abstraction.proofs.Demand2.{demand2}
 use Rattle.tables.specs.Tabled.{firstOff}
 use Rattle.verdict.specs.Verdicts.{Finding, Forbid, RunOff, findings, pathWords}
 use Rattle.safety.proofs.Safety.{safe}
-use Rattle.judge.specs.Calls.{Judgement, keep, verdict, judgeGraph, judgeLemmas, judgeProgram, judge, Demand2At, Demand2Of, SafeOf}
+use Rattle.judge.specs.Calls.{Judgement, keep, verdict, judgeGraph, judgeLemmas, judgeProgram, judge, OfList, Demand2Of, SafeOf}
 use Rattle.judge.specs.declared.Judged.the-variants.{Refused}
 use Rattle.judge.specs.declared.Judged.the-variants.{Safe as IsSafe}
 
 -- ---- demand 2
-lemmas-demand2 : (p : Program) → WellFormed p → (lemmas : List ℕ) (m : Read (List Lemma)) → readLemmas p lemmas ≡ m → Demand2At p m
+lemmas-demand2 : (p : Program) → WellFormed p → (lemmas : List ℕ) (m : Read (List Lemma)) → readLemmas p lemmas ≡ m → OfList (λ ls. Demand2 p ls (graph p ls)) m
 lemmas-demand2 p ok lemmas (got ls us i) q = demand2 p ok ls (lemmas-accepted p ok lemmas ls us i q .good .each)
 lemmas-demand2 p ok lemmas (refused r) q = tt
 

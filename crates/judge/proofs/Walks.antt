@@ -21,7 +21,7 @@ use Rattle.records.specs.Records.{mostNodes}
 use Rattle.abstraction.specs.Abstraction.{literalsIn, applies, successor, start, answer, graph}
 use Rattle.abstraction.specs.Faithful.{literalsAt}
 use Rattle.verdict.specs.Verdicts.{Finding, Forbid, RunOff, contradicted, unless, forbids, ends, hasNext, runsOff, findingsAt, findingsFrom, findings, nodeOf}
-use Rattle.judge.specs.Calls.{WalksTo, WalksIn, WalksAt, WalksOf}
+use Rattle.judge.specs.Calls.{OfList, WalksTo, WalksIn, WalksOf}
 
 -- ---- every finding is at a node of the graph
 abbrev At : ℕ → List Finding → Type 0
@@ -96,7 +96,7 @@ result-walks : (p : Program) (ls : List Lemma) (r : Result) → graph p ls ≡ r
 result-walks p ls (Done g) e = graph-walks p ls g e (findings p ls g) (findings-within p ls g)
 result-walks p ls Over e = tt
 
-lemmas-walk : (p : Program) (m : Read (List Lemma)) → WalksAt p m
+lemmas-walk : (p : Program) (m : Read (List Lemma)) → OfList (λ ls. WalksIn p ls (graph p ls)) m
 lemmas-walk p (got ls us i) = result-walks p ls (graph p ls) refl
 lemmas-walk p (refused r) = tt
 

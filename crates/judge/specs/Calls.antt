@@ -5,9 +5,10 @@
 -- verdict   — the first finding with the counts of nodes and edges; none is safe
 -- pathTo    — the steps to the first finding's node; none for safe
 -- judgeGraph, judgeLemmas, judgeProgram, judge — Judge; refusals in the order 1 graph, 1 path, 2 to 4, 5 and 6, 11, 7
--- GraphOf, Demand2Of — demand 2, of the graph that the lists' words give
+-- OfList, OfRead — a claim about the program and the lemmas that the lists' words are
+-- Demand2Of — demand 2, of their graph
 -- SafeOf    — demand 3, of the program that the words are
--- WalksTo   — the path to the first finding is a walk in the graph from node 0 to its node
+-- WalksTo, WalksIn, WalksOf — the path to the first finding is a walk in the graph from node 0 to its node
 use mathlib.Core.Path.{_≡_}
 use mathlib.Core.Bool.{Bool, cond}
 use mathlib.Core.List.{List, [], _∷_}
@@ -22,7 +23,7 @@ use Rattle.runs.specs.Runs.{Safe}
 use Rattle.lemmas.specs.Lemmas.{Lemma}
 use Rattle.lemmas.specs.LemmaGrammar.{readLemmas}
 use Rattle.search.specs.Search.{To, Graph, Result, Done, Over, count, links, edge}
-use Rattle.search.specs.Reach.{along}
+use Rattle.search.specs.Paths.{along}
 use Rattle.records.specs.Records.{graphWords, graphList}
 use Rattle.abstraction.specs.Abstraction.{graph}
 use Rattle.abstraction.specs.Faithful.{Demand2}
@@ -70,13 +71,17 @@ judge ws lemmas gl pl =
     (cond (ltb (length pl) pathWords) (keep (Refused (Short 1)) gl pl) (judgeProgram (read ws) lemmas gl pl))
 
 -- ---- what holds of every answer
-abbrev pub Demand2At : Program → Read (List Lemma) → Type 0
-Demand2At p (got ls ws i) = Demand2 p ls (graph p ls)
-Demand2At p (refused r) = Unit {0}
+-- of the program and the lemmas that were read
+abbrev pub OfList : (List Lemma → Type 0) → Read (List Lemma) → Type 0
+OfList P (got ls ws i) = P ls
+OfList P (refused r) = Unit {0}
+
+abbrev pub OfRead : (Program → List Lemma → Type 0) → Read Program → List ℕ → Type 0
+OfRead P (got p ws i) lemmas = OfList (P p) (readLemmas p lemmas)
+OfRead P (refused r) lemmas = Unit {0}
 
 abbrev pub Demand2Of : Read Program → List ℕ → Type 0
-Demand2Of (got p ws i) lemmas = Demand2At p (readLemmas p lemmas)
-Demand2Of (refused r) lemmas = Unit {0}
+Demand2Of m lemmas = OfRead (λ p ls. Demand2 p ls (graph p ls)) m lemmas
 
 abbrev pub SafeOf : Read Program → Type 0
 SafeOf (got p ws i) = Safe p
@@ -90,10 +95,5 @@ abbrev pub WalksIn : Program → List Lemma → Result → Type 0
 WalksIn p ls (Done g) = WalksTo p g (findings p ls g)
 WalksIn p ls Over = Unit {0}
 
-abbrev pub WalksAt : Program → Read (List Lemma) → Type 0
-WalksAt p (got ls ws i) = WalksIn p ls (graph p ls)
-WalksAt p (refused r) = Unit {0}
-
 abbrev pub WalksOf : Read Program → List ℕ → Type 0
-WalksOf (got p ws i) lemmas = WalksAt p (readLemmas p lemmas)
-WalksOf (refused r) lemmas = Unit {0}
+WalksOf m lemmas = OfRead (λ p ls. WalksIn p ls (graph p ls)) m lemmas

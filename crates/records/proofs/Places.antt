@@ -13,7 +13,8 @@ use lib.ListN.{length, getD, set, drop, replicate, length-replicate, length-appe
 use lib.Seq.{drop-append-le, getD-set-other, getD-at}
 use Rattle.search.specs.Search.{seek}
 use Rattle.search.proofs.Count.{lt-or-le, seek-found, seek-bound, seek-le}
-use Rattle.records.specs.Records.{mostNodes, graphWords, stride, recordPlace, column}
+use Rattle.records.specs.Records.{mostNodes, graphWords, stride, recordPlace}
+use Rattle.records.specs.Steps.{column}
 
 pub row-within : (i n s : ℕ) → i < n → i * s + s ≤ n * s
 row-within i n s h = omega (arith, mul-le-mul-right s h, suc-mul i s)

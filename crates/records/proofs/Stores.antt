@@ -13,9 +13,9 @@ use lib.ListN.{length, drop, set, length-append, length-set, List·getD-append}
 use lib.Seq.{getD-set-same, getD-set-other, drop-set-lt, drop-drop, getD-at}
 use Rattle.search.specs.Search.{Answer, To, None, Origin, Graph, count, linksIn, edge, seek, stored, linked, answered}
 use Rattle.search.proofs.Count.{same-place, lt-or-le}
-use Rattle.records.specs.Records.{originWord, edgeWord, mostNodes, graphWords, header, stride, recordPlace, edgePlace, column}
+use Rattle.records.specs.Records.{originWord, edgeWord, mostNodes, graphWords, header, stride, recordPlace, edgePlace}
 use Rattle.records.specs.declared.Explored.the-variants.{Whole, Full}
-use Rattle.records.specs.Steps.{Kept, Turned}
+use Rattle.records.specs.Steps.{column, Kept, Turned}
 use Rattle.records.proofs.Places.{row-within, most, rooms, one-more, column-other, not-there}
 
 -- 1 for an edge that leads to a node

@@ -5,7 +5,6 @@
 -- mostNodes, graphWords  — how many nodes there may be, and how many words their records have room in
 -- header, stride         — how many words of a record come before its edges; how many it has
 -- recordPlace, edgePlace — where a record begins; where an edge of it stands
--- column                 — word c of each of the first n records
 -- edgeRow, nodeRecord, recordsOf — the first j edge words of node k; the record of node k; the first n records
 -- listOf, graphList      — the list that a search leaves: the records, then zeros up to its room, then what was there
 -- exploredOf             — what a search answers: the number of nodes and of edges that lead to a node, or that there are too many nodes
@@ -51,10 +50,6 @@ recordPlace a k = k * stride a
 
 abbrev pub edgePlace : ℕ → ℕ → ℕ → ℕ
 edgePlace a k j = recordPlace a k + (header + j)
-
-unfoldable pub column : List ℕ → ℕ → ℕ → ℕ → List ℕ
-column l a c zero = []
-column l a c (suc n) = column l a c n ++ (getD l (recordPlace a n + c) 0 ∷ [])
 
 -- ---- the finished list
 unfoldable pub edgeRow : ℕ → Graph → ℕ → ℕ → List ℕ

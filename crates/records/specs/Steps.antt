@@ -1,18 +1,23 @@
 -- What the steps of a search do to the list that it writes the records in.
 --
+-- column — word c of each of the first n records
 -- Kept   — the list, which was l₀, begins with the n nodes of g, has its e edges, of which x lead to a node, and behind the n records is l₀
 -- Mid    — the same of a result and an answer
 -- Fair   — the nodes that an answer counts have not fallen and are at most mostNodes; the edges that it counts are at most e
 -- Turned — one step: whatever graph g the list holds before it, the list holds f g after it, and past its room is as it was
 -- Filled — what a search leaves of a list that was l₀, where it does not clear what it left when there are too many nodes
-use Prim.Native.Nat.{ℕ, _+_, _*_, _<_, _≤_}
+use Prim.Native.Nat.{ℕ, zero, suc, _+_, _*_, _<_, _≤_}
 use mathlib.Core.Path.{_≡_}
-use mathlib.Core.List.{List, _++_, map}
+use mathlib.Core.List.{List, [], _∷_, _++_, map}
 use lib.ListN.{length, drop, getD}
 use Rattle.search.specs.Search.{Graph, Result, Done, Over, count, links, edge}
-use Rattle.records.specs.Records.{originWord, edgeWord, mostNodes, graphWords, recordPlace, edgePlace, column, recordsOf}
+use Rattle.records.specs.Records.{originWord, edgeWord, mostNodes, graphWords, recordPlace, edgePlace, recordsOf}
 use Rattle.records.specs.declared.Explored.{Explored}
 use Rattle.records.specs.declared.Explored.the-variants.{Whole, Full}
+
+unfoldable pub column : List ℕ → ℕ → ℕ → ℕ → List ℕ
+column l a c zero = []
+column l a c (suc n) = column l a c n ++ (getD l (recordPlace a n + c) 0 ∷ [])
 
 pub record Kept (l₀ l : List ℕ) (a n x e : ℕ) (g : Graph) : Type 0 where
   pub size : count g ≡ n

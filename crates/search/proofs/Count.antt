@@ -11,7 +11,7 @@ use borrow.Author.Tests.{eqb-true, eqb-false}
 use lib.ListN.{length, getD}
 use lib.Dec.{eqb}
 use Rattle.search.specs.Search.{pickN, seek}
-use Rattle.search.specs.Reach.{Distinct, AllOf}
+use Rattle.search.proofs.Reach.{Distinct, AllOf}
 
 pub lt-or-le : (m n : ℕ) → (m < n) ⊎ (n ≤ m)
 lt-or-le m n = elim (decLt m n) [ yes h ↦ inl h | no h ↦ inr (omega arith) ]

@@ -1,3 +1,4 @@
+pub mod Reach
 pub mod Count
 pub mod Grown
 pub mod Sound

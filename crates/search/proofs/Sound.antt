@@ -11,7 +11,7 @@ use lib.ListN.{length, getD, List·getD-append}
 use lib.Seq.{getD-append-seam, getD-at}
 use lib.Dec.{ltb}
 use Rattle.search.specs.Search.{Answer, To, None, Origin, Root, From, Graph, Result, Done, Over, seek, empty, stored, linked, placed, rooted, begun, answered, acted, turns, nodeIf, node, run, explored, count, nodeWord, origin, edge}
-use Rattle.search.specs.Reach.{Reach, first, onward, Distinct, AllOf, Many}
+use Rattle.search.proofs.Reach.{Reach, first, onward, Distinct, AllOf, Many}
 use Rattle.search.proofs.Grown.{len-more, more, Grown, stored-grown}
 use Rattle.search.proofs.Count.{lt-or-le, same-place, row-below, seek-found, seek-bound, seek-le}
 

@@ -12,7 +12,7 @@ use mathlib.Core.Logic.{_↔_}
 use mathlib.Core.List.{List}
 use lib.ListN.{length}
 use Rattle.search.specs.Search.{Answer, To, None, Graph, Result, Done, Over, seek, explored, count, nodeWord, origin, edge, numbered}
-use Rattle.search.specs.Reach.{Reach, first, onward, Distinct, AllOf, Many}
+use Rattle.search.proofs.Reach.{Reach, first, onward, Distinct, AllOf, Many}
 use Rattle.search.proofs.Count.{row-below, seek-found, seek-le, no-more}
 use Rattle.search.proofs.Sound.{Begins, Comes, Leads, Sound, Out, explored-holds}
 

@@ -13,7 +13,7 @@ use lib.ListN.{length, take, drop, set, replicate, length-map, length-reverse, l
 use lib.Seq.{set-split, drop-at, take-at, take-all, length-take-le}
 use Rattle.words.specs.Words.{word}
 use Rattle.search.specs.Search.{Answer, Origin, Root, From, Graph, Done, count, origin}
-use Rattle.search.specs.Reach.{hop, back}
+use Rattle.search.specs.Paths.{hop, back}
 use Rattle.search.proofs.Sound.{Comes}
 use Rattle.search.proofs.Theorem.{Whole}
 use Rattle.records.specs.Records.{originWord, mostNodes, graphWords, recordPlace, graphList}

@@ -20,7 +20,7 @@ use Rattle.grammar.specs.Programs.{Assignment, Action, Program}
 use Rattle.lemmas.specs.Lemmas.{Lemma}
 use Rattle.formula.specs.Formula.{Literal, B, NotB}
 use Rattle.search.specs.Search.{Answer, To, None, Graph, count, edge}
-use Rattle.search.specs.Reach.{path}
+use Rattle.search.specs.Paths.{path}
 use Rattle.records.specs.Records.{mostNodes}
 use Rattle.abstraction.specs.Abstraction.{literalsIn, among, applies}
 use Rattle.abstraction.specs.Faithful.{literalsAt}

@@ -30,7 +30,7 @@ use Rattle.ask.specs.Calls.{noLemma, ask}
 use Rattle.ask.specs.declared.Asked.the-variants.{NotAccepted}
 use Rattle.formula.specs.Formula.{conjuncts}
 use Rattle.search.specs.Search.{linksIn, turns, run, explored}
-use Rattle.search.specs.Reach.{back}
+use Rattle.search.specs.Paths.{back}
 use Rattle.records.specs.Records.{graphWords, edgeRow, recordsOf}
 use Rattle.abstraction.specs.Abstraction.{literalsIn, among, allAmong, applies, setOf}
 use Rattle.tables.specs.Tabled.{firstOff}
