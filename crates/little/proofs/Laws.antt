@@ -7,7 +7,7 @@ use lib.ListN.{length, drop, set, getD, length-append}
 use lib.Seq.{drop-cons, set-at, append-snoc}
 use Rattle.little.specs.LittleEndian.{wordAt, wordsOf}
 
-length-words : (b : List ℕ) (n : ℕ) → length (wordsOf b n) ≡ n
+pub length-words : (b : List ℕ) (n : ℕ) → length (wordsOf b n) ≡ n
 unfolding wordsOf
 length-words b zero = refl
 length-words b (suc n) = simp length-append (rw (length-words b n, add-one))

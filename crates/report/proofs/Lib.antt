@@ -1,0 +1,7 @@
+pub mod Logic
+pub mod Steps
+pub mod Sizes
+pub mod Paths
+pub mod Short
+pub mod SafeLine
+pub mod Cases

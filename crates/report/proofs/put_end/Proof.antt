@@ -1,0 +1,48 @@
+use mathlib.Core.Path.{_≡_}
+use native.Mathlib.Omega.{arith}
+use lib.ListN.{length}
+use Rattle.report.specs.Report.{endText}
+use borrow.Author.Needs.{needs}
+use Rattle.report.proofs.put_end.Statement.{statement}
+use Rattle.report.proofs.put_end.Tie as tie
+
+slice-aggregate-put-bytes : tie.Need-slice-aggregate-put-bytes
+slice-aggregate-put-bytes c = search needs
+
+put-bytes-requires : tie.Need-put-bytes-requires
+put-bytes-requires c κs =
+    let up : length (endText (c .before .before .before .before .args .high)) ≡ 6 = rw (c .before .before .if1 .taken) in
+    omega arith
+
+slice-aggregate-put-bytes-2 : tie.Need-slice-aggregate-put-bytes-2
+slice-aggregate-put-bytes-2 c = search needs
+
+put-bytes-requires-2 : tie.Need-put-bytes-requires-2
+put-bytes-requires-2 c κs =
+    let down : length (endText (c .before .before .before .before .args .high)) ≡ 5 = rw (c .before .before .if1 .left) in
+    omega arith
+
+same-length : tie.Need-same-length
+same-length c = search needs
+
+returns : tie.Need-returns
+returns c = rw (c .before .before .before .before .before .if1 .taken) (c .before .before .put-bytes .ensures)
+
+same-length-2 : tie.Need-same-length-2
+same-length-2 c = search needs
+
+returns-2 : tie.Need-returns-2
+returns-2 c = rw (c .before .before .before .before .before .if1 .left) (c .before .before .put-bytes2 .ensures)
+
+pub put-end-spec : {M : Type 1} → statement M
+put-end-spec =
+    tie.close
+    (tie.spec
+    slice-aggregate-put-bytes
+    put-bytes-requires
+    slice-aggregate-put-bytes-2
+    put-bytes-requires-2
+    same-length
+    returns
+    same-length-2
+    returns-2)

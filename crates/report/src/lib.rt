@@ -1,0 +1,174 @@
+// What the operator's program prints for the bytes of a show.
+ghost use mathlib.Core.Path.{_≡_};
+ghost use mathlib.Core.List.{List, _++_};
+ghost use Prim.Native.Nat.{ℕ, _+_, _<_, _≤_};
+ghost use lib.ListN.{length, drop};
+ghost use Rattle.lines.specs.Text.{Put, text};
+ghost use Rattle.report.specs.Report.{mostBytes, linesRoom, logicLength, wordsIn, zeros, judged, stepsIn, endText, runOffLine, refusedLine, stepText, pathLine, answerLines, judgementLines, showLines, linesOf, shown, Begins, SafeShow};
+use judge::Judged;
+use words::Kind;
+use words::Refusal;
+
+// The end of a range.
+fn put_end(out: &mut [u8], at: usize, high: bool) -> usize
+    requires { ⌜ at + length (endText high) ≤ length (now out) ⌝ }
+    ensures { λ r. ⌜ Put (now (out .entry)) at (endText high) (now (out .exit)) r ⌝ }
+{
+    if high {
+        lines::put_bytes(&mut *out, at, b" high\n")
+    } else {
+        lines::put_bytes(&mut *out, at, b" low\n")
+    }
+}
+
+// RUNOFF node N action A variable V low, or high
+fn put_run_off(out: &mut [u8], node: usize, action: usize, variable: usize, high: bool) -> usize
+    requires { ⌜ length (runOffLine node action variable high) ≤ length (now out) ⌝ }
+    ensures { λ r. ⌜ Put (now (out .entry)) 0 (runOffLine node action variable high) (now (out .exit)) r ⌝ }
+{
+    let at = lines::put_field(&mut *out, 0, b"RUNOFF node ", node);
+    let next = lines::put_field(&mut *out, at, b" action ", action);
+    let last = lines::put_field(&mut *out, next, b" variable ", variable);
+    put_end(&mut *out, last, high)
+}
+
+// REFUSED R AT P
+fn put_refused(out: &mut [u8], why: Refusal) -> usize
+    requires { ⌜ length (refusedLine why) ≤ length (now out) ⌝ }
+    ensures { λ r. ⌜ Put (now (out .entry)) 0 (refusedLine why) (now (out .exit)) r ⌝ }
+{
+    let number = words::number_of(why) as usize;
+    let value = words::value_of(why);
+    lines::put_line(&mut *out, b"REFUSED ", number, b" AT ", value)
+}
+
+// Each action of the path after a space.
+fn put_steps(out: &mut [u8], at: usize, path: &[u32]) -> usize
+    requires { ⌜ at + length (stepText (stepsIn (now path))) ≤ length (now out) ⌝ }
+    ensures { λ r. ⌜ Put (now (out .entry)) at (stepText (stepsIn (now (path .entry)))) (now (out .exit)) r ⌝ }
+{
+    let mut place = at;
+    let mut i: usize = 0;
+    while i < path.len() {
+        let w = path[i];
+        if !Kind::of(w).is(Kind::STEP) {
+            return place;
+        }
+        place = lines::put_field(&mut *out, place, b" ", words::count(w));
+        i += 1;
+    }
+    place
+}
+
+// PATH and its actions
+fn put_path(out: &mut [u8], at: usize, path: &[u32]) -> usize
+    requires { ⌜ at + length (pathLine (stepsIn (now path))) ≤ length (now out) ⌝ }
+    ensures { λ r. ⌜ Put (now (out .entry)) at (pathLine (stepsIn (now (path .entry)))) (now (out .exit)) r ⌝ }
+{
+    let next = lines::put_bytes(&mut *out, at, b"PATH");
+    let last = put_steps(&mut *out, next, path);
+    lines::put_bytes(&mut *out, last, b"\n")
+}
+
+// The lines of an answer.
+fn put_answer(out: &mut [u8], answer: Judged, path: &[u32]) -> usize
+    requires { ⌜ length (answerLines answer (now path)) ≤ length (now out) ⌝ }
+    ensures { λ r. ⌜ Put (now (out .entry)) 0 (answerLines answer (now (path .entry))) (now (out .exit)) r ⌝ }
+{
+    match answer {
+        Judged::Safe(nodes, edges) => lines::put_line(
+            &mut *out,
+            b"SAFE nodes ",
+            nodes,
+            b" edges ",
+            edges,
+        ),
+        Judged::MayForbid(node, bad, _, _) => {
+            let at = lines::put_line(&mut *out, b"FORBID node ", node, b" bad ", bad);
+            put_path(&mut *out, at, path)
+        }
+        Judged::MayRunOff(node, action, variable, high, _, _) => {
+            let at = put_run_off(&mut *out, node, action, variable, high);
+            put_path(&mut *out, at, path)
+        }
+        Judged::Refused(why) => put_refused(&mut *out, why),
+    }
+}
+
+// A fresh graph list. The contract names the list, so that no caller sees its 9,216 zeros.
+fn graph_list() -> [u32; 9216]
+    ensures { λ r. ⌜ (9216 ≡ length r) × (r ≡ zeros 9216) ⌝ }
+{
+    [0; 9216]
+}
+
+// A fresh path list.
+fn path_list() -> [u32; 512]
+    ensures { λ r. ⌜ (512 ≡ length r) × (r ≡ zeros 512) ⌝ }
+{
+    [0; 512]
+}
+
+// The lines of a logic and its lemmas.
+fn put_lists(out: &mut [u8], logic: &[u32], lemmas: &[u32]) -> usize
+    requires { ⌜ linesRoom ≤ length (now out) ⌝ }
+    ensures { λ r. ⌜ Put (now (out .entry)) 0 (judgementLines (judged (now (logic .entry)) (now (lemmas .entry)))) (now (out .exit)) r ⌝ }
+{
+    let mut graph = graph_list();
+    let mut path = path_list();
+    let answer = judge::judge(logic, lemmas, &mut graph, &mut path);
+    put_answer(&mut *out, answer, &path)
+}
+
+// How many words belong to the logic.
+fn logic_length(words: &[u32]) -> usize
+    ensures { λ r. ⌜ (r ≡ logicLength (now (words .entry))) × (r ≤ length (now (words .entry))) ⌝ }
+{
+    let mut i: usize = 0;
+    while i < words.len() {
+        if Kind::of(words[i]).is(Kind::END) {
+            return i + 1;
+        }
+        i += 1;
+    }
+    i
+}
+
+// The lines of a show's words.
+fn put_words(out: &mut [u8], words: &[u32]) -> usize
+    requires { ⌜ linesRoom ≤ length (now out) ⌝ }
+    ensures { λ r. ⌜ Put (now (out .entry)) 0 (showLines (now (words .entry))) (now (out .exit)) r ⌝ }
+{
+    let n = logic_length(words);
+    put_lists(&mut *out, &words[..n], &words[n..])
+}
+
+// The lines of a show's bytes, as many as there may be and no part of a word.
+fn put_show(out: &mut [u8], input: &[u8]) -> usize
+    requires { ⌜ (linesRoom ≤ length (now out)) × (length (now input) ≤ mostBytes) ⌝ }
+    ensures { λ r. ⌜ Put (now (out .entry)) 0 (showLines (wordsIn (now (input .entry)))) (now (out .exit)) r ⌝ }
+{
+    let n = input.len() / 4;
+    let mut space = little::space();
+    little::to_words(input, &mut space, n);
+    put_words(&mut *out, &space[..n])
+}
+
+// The lines of any bytes, at the front of `lines`; answers how many bytes they have. Where `lines` has under 4,096 bytes it is left, and the
+// answer is 0. Of more than 65,536 bytes, those behind the first 65,537 change nothing. A line that begins with SAFE is a promise of the logic.
+pub fn report(input: &[u8], lines: &mut [u8]) -> usize
+    ensures lines { λ r. ⌜ (now (lines .exit) ≡ shown (now (input .entry)) (now (lines .entry)) ++ drop (length (shown (now (input .entry)) (now (lines .entry)))) (now (lines .entry))) × (r ≡ length (shown (now (input .entry)) (now (lines .entry)))) ⌝ }
+    ensures cut { λ _. ⌜ ((more : List ℕ) → mostBytes < length (now (input .entry)) → linesOf (now (input .entry) ++ more) ≡ linesOf (now (input .entry))) ⌝ }
+    ensures safe { λ _. ⌜ (Begins (text "SAFE") (linesOf (now (input .entry))) → SafeShow (now (input .entry))) ⌝ }
+{
+    if lines.len() < 4096 {
+        return 0;
+    }
+    if input.len() > 65536 {
+        return lines::put_bytes(&mut *lines, 0, b"TOO LONG\n");
+    }
+    if input.len() % 4 != 0 {
+        return lines::put_bytes(&mut *lines, 0, b"ODD BYTES\n");
+    }
+    put_show(&mut *lines, input)
+}
