@@ -1,0 +1,52 @@
+#!/bin/bash
+# Each show of shows/ through ./judge: standard output is NAME.expected byte for byte, standard error is empty and the exit status 0.
+# Then the lengths that no stored show has. The last line is 'N passed, M failed'.
+set -u
+cd "$(dirname "$(readlink -f "$0")")/.." || exit 2
+room=$(mktemp -d) || exit 2
+trap 'rm -rf "$room"' EXIT
+passed=0 failed=0
+
+say() { # NAME STATUS
+    if [ "$2" -eq 0 ]; then
+        passed=$((passed + 1))
+    else
+        failed=$((failed + 1))
+        echo "shows: $1: FAILED"
+    fi
+}
+
+# The program on standard input against the file of expected lines.
+judged() { # NAME EXPECTED
+    ./judge >"$room/out" 2>"$room/err" && cmp -s "$room/out" "$2" && [ ! -s "$room/err" ]
+    say "$1" $?
+}
+
+# tests/shows.py still makes the stored shows, byte for byte.
+made() {
+    local file
+    python3 tests/shows.py "$room/made" || return 1
+    for file in "$room"/made/*; do
+        cmp "$file" "shows/${file##*/}" || return 1
+    done
+}
+made
+say "shows as tests/shows.py makes them" $?
+
+./judge <shows/fade.words >/dev/null 2>&1 # builds the program where it is missing
+for show in shows/*.words; do
+    judged "$show" "${show%.words}.expected" <"$show"
+done
+
+# 65,536 bytes are not too many, and zeros have no kind; one byte more is, and TOO LONG comes before ODD BYTES; so is any number above.
+echo "REFUSED 2 AT 0" >"$room/zeros"
+echo "TOO LONG" >"$room/long"
+judged "65,536 bytes" "$room/zeros" < <(head -c 65536 /dev/zero)
+judged "65,537 bytes" "$room/long" < <(head -c 65537 /dev/zero)
+judged "65,540 bytes" "$room/long" < <(head -c 65540 /dev/zero)
+judged "a million bytes" "$room/long" < <(head -c 1000000 /dev/zero)
+# Input that comes in pieces is one input.
+judged "fade in pieces" shows/fade.expected < <(head -c 50 shows/fade.words; sleep 0.1; tail -c +51 shows/fade.words)
+
+echo "$passed passed, $failed failed"
+[ "$failed" -eq 0 ]
