@@ -4,8 +4,8 @@ use mathlib.Core.Bool.{true}
 use mathlib.Core.List.{List, [], map}
 use Prim.Native.Nat.{ℕ, _+_, _-_, _≤_, _<_}
 use native.Mathlib.Omega.{arith}
-use lib.ListN.{length, getD, take, drop, replicate, length-map, length-drop, List·getD-eq-default}
-use lib.Seq.{sets, length-take-le}
+use lib.ListN.{length, getD, take, drop, length-map, length-drop, List·getD-eq-default}
+use lib.Seq.{length-take-le}
 use Rattle.integers.proofs.Fill.{getD-mapped}
 use Rattle.words.specs.declared.Refusal.{Refusal}
 use Rattle.grammar.specs.Reading.{Read, got, refused}
@@ -18,10 +18,11 @@ use Rattle.reader.specs.declared.Next.the-variants.{Refused as Stopped}
 use Rattle.actions.specs.declared.ActionRead.{ActionRead}
 use Rattle.actions.specs.Results.{actionRead}
 use Rattle.programs.specs.declared.Image.{Image}
+use Rattle.programs.specs.declared.Part.{Part}
 use Rattle.programs.specs.declared.Loaded.{Loaded}
 use Rattle.programs.specs.declared.Status.the-variants.{Ready, Failed}
 use Rattle.programs.specs.declared.Checked.the-variants.{Good, Refused}
-use Rattle.programs.specs.Calls.{read, checked, partOf, actionPart, PartOf}
+use Rattle.programs.specs.Calls.{read, checked, partOf, actionPart, PartOf, placeIn, partPlace}
 use Rattle.programs.specs.Images.{imageOf, loaded, places, firstAction}
 use Rattle.programs.proofs.Places.{action-k, noneAction, stored-at, length-places}
 
@@ -36,9 +37,6 @@ check-good (got p us i) e h = ap (λ (y : Loaded). Good (record { variables = y 
 check-good (refused q) e h = let z : _≡_ {A = ℕ} 0 1 = cc (ap (λ (y : Loaded). y .status) e) in absurd (omega arith)
 
 -- ---- Action part
-pub empty-part : (ws : List ℕ) → PartOf ws []
-empty-part ws = (0, refl)
-
 pub part-of : (ws : List ℕ) (at n : ℕ) → at + n ≤ length ws → PartOf ws (take n (drop at ws))
 part-of ws at n h = (at, ap (λ (m : ℕ). take m (drop at ws)) (sym (length-take-le n (drop at ws) (simp length-drop (omega arith)))))
 
@@ -47,6 +45,12 @@ no-action (got p us i) k e h =
     let n = ap (λ (y : Loaded). y .image .actions) e in
     sym (List·getD-eq-default (map encodeAction (p .actions)) [] (rw (length-map (p .actions) encodeAction) (omega arith)))
 no-action (refused q) k e h = refl
+
+-- an action's place in the image is where its words begin
+stored-place : (p : Program) (k : ℕ) → length (p .actions) ≤ 16 → k < length (p .actions) → getD (imageOf p .«action_at») k 0 ≡ getD (places encodeAction (firstAction p) (p .actions)) k 0
+stored-place p k few h =
+    let n = length-places encodeAction (firstAction p) (p .actions) in
+    stored-at 16 0 (places encodeAction (firstAction p) (p .actions)) k 0 (omega arith) (omega arith)
 
 at-same : {i j : ℕ} → At i ≡ At j → i ≡ j
 at-same e = cc e
@@ -68,10 +72,9 @@ found-in ws k p ok h =
     let few = ok .good .ranges .few in
     let most = ok .good .actions .few in
     let a = getD (p .actions) k noneAction in
-    let n = length-places encodeAction (firstAction p) (p .actions) in
     let t = action-k ws p k ok h in
     let at = getD (places encodeAction (firstAction p) (p .actions)) k 0 in
-    let same : getD (sets (replicate 16 0) 0 (places encodeAction (firstAction p) (p .actions))) k 0 ≡ at = stored-at 16 0 (places encodeAction (firstAction p) (p .actions)) k 0 (omega arith) (omega arith) in
+    let same : getD (imageOf p .«action_at») k 0 ≡ at = stored-place p k most h in
     record {
       few = few;
       small = omega arith;
@@ -91,3 +94,42 @@ found ws k {x} e h = go (read ws) refl e
         let n = ap (λ (y : Loaded). y .image .actions) f in
         rw (ap (λ (y : Loaded). y .image) f, q) (found-in ws k p (accepted ws p us i q) (omega arith))
     go (refused r) q f = let n = ap (λ (y : Loaded). y .image .actions) f in absurd (omega arith)
+
+-- ---- where the words of an action stand
+is-part : (x : Part) {at n : ℕ} → at ≡ x .start → n ≡ x .length → record { start = at; length = n } ≡ x
+is-part x e f = rw (e, f)
+
+abbrev Placed : List ℕ → ℕ → Part → Type 0
+Placed ws k x = (x ≡ partPlace ws k) × ((x .start + x .length ≤ length ws) × (take (x .length) (drop (x .start) ws) ≡ actionPart ws k))
+
+place-length : (m : Read Program) (k : ℕ) → placeIn m k .length ≡ length (partOf m k)
+place-length (got p us i) k = refl
+place-length (refused q) k = refl
+
+no-start : (m : Read Program) (k : ℕ) {x : Loaded} → x ≡ loaded m → x .image .actions ≤ k → 0 ≡ placeIn m k .start
+no-start (got p us i) k e h =
+    let n = ap (λ (y : Loaded). y .image .actions) e in
+    let l = length-places encodeAction (firstAction p) (p .actions) in
+    sym (List·getD-eq-default (places encodeAction (firstAction p) (p .actions)) 0 (omega arith))
+no-start (refused q) k e h = refl
+
+pub no-place : (ws : List ℕ) (k : ℕ) {x : Loaded} → x ≡ loaded (read ws) → x .image .actions ≤ k → Placed ws k (record { start = 0; length = 0 })
+no-place ws k e h =
+    let none = no-action (read ws) k e h in
+    (is-part (partPlace ws k) (no-start (read ws) k e h) (ap length none ∙ sym (place-length (read ws) k)), (omega arith, none))
+
+start-found : (ws : List ℕ) (k : ℕ) {x : Loaded} → x ≡ loaded (read ws) → k < x .image .actions → getD (x .image .«action_at») k 0 ≡ partPlace ws k .start
+start-found ws k {x} e h = go (read ws) refl e
+  where
+    go : (m : Read Program) → read ws ≡ m → x ≡ loaded m → getD (x .image .«action_at») k 0 ≡ placeIn m k .start
+    go (got p us i) q f =
+        let n = ap (λ (y : Loaded). y .image .actions) f in
+        ap (λ (y : Loaded). getD (y .image .«action_at») k 0) f ∙ stored-place p k (accepted ws p us i q .good .actions .few) (omega arith)
+    go (refused r) q f = let n = ap (λ (y : Loaded). y .image .actions) f in absurd (omega arith)
+
+pub place-found : (ws : List ℕ) (k : ℕ) {x : Loaded} {j : ℕ} → x ≡ loaded (read ws) → k < x .image .actions → let at = getD (x .image .«action_at») k 0 in
+    (at ≤ j) × (j ≤ length ws) × (take (j - at) (drop at ws) ≡ actionPart ws k) → Placed ws k (record { start = at; length = j - at })
+place-found ws k {x} {j} e h (low, high, words) =
+    let at = getD (x .image .«action_at») k 0 in
+    let long : length (take (j - at) (drop at ws)) ≡ j - at = length-take-le (j - at) (drop at ws) (simp length-drop (omega arith)) in
+    (is-part (partPlace ws k) (start-found ws k e h) (sym long ∙ ap length words ∙ sym (place-length (read ws) k)), (omega arith, words))

@@ -1,5 +1,5 @@
 -- What the readers of a program's parts give, and the image of a program that the calls work on. Only contracts of functions within the
--- project cite these.
+-- project cite these, but for `places` and `firstAction`.
 --
 -- zeroRanges, noRanges, rangesFrom      — ranges
 -- countedRead                           — rows after INIT or PRED

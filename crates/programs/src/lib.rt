@@ -2,12 +2,12 @@
 ghost use mathlib.Core.Path.{_≡_};
 ghost use mathlib.Core.Bool.{_&&_};
 ghost use Prim.Native.Nat.{_+_, _-_, _<_, _≤_, _^_};
-ghost use lib.ListN.{length, drop, getD, replicate};
+ghost use lib.ListN.{length, take, drop, getD, replicate};
 ghost use Rattle.words.specs.Words.{literalsOf, noLiterals, VAR, ACTION, SETS};
 ghost use Rattle.grammar.specs.Reading.{many, refused};
 ghost use Rattle.grammar.specs.Grammar.{rangeOf, range, ranges, rows, action, combination, literalsAllowed, end};
 ghost use Rattle.reader.specs.Results.{nextOf};
-ghost use Rattle.programs.specs.Calls.{read, check, actionPart, PartOf};
+ghost use Rattle.programs.specs.Calls.{read, check, actionPart, PartOf, partPlace};
 ghost use Rattle.programs.specs.Images.{noRanges, rangesFrom, zeroRanges, countedRead, noActions, actionsFrom, noForbidden, forbiddenFrom, loaded, placeOf, rest, restLoaded};
 use reader::Next;
 use rows::Range;
@@ -395,23 +395,49 @@ pub fn check(words: &[u32]) -> Checked
     }
 }
 
-// Action part: the words of action k, as a part of the caller's list; empty where there is no such action or no program.
-pub fn action_part(words: &[u32], k: usize) -> &[u32]
-    ensures answer { λ r. ⌜ now r ≡ actionPart (now (words .entry)) k ⌝ }
-    ensures part { λ r. ⌜ PartOf (now (words .entry)) (now r) ⌝ }
+// A part of the caller's list: where it begins, and how many words it has.
+pub struct Part {
+    pub start: usize,
+    pub length: usize,
+}
+
+// Where the words of action k stand in the caller's list; 0 and 0 where there is no such action or no program.
+pub fn part_place(words: &[u32], k: usize) -> Part
+    ensures place { λ r. ⌜ r ≡ partPlace (now (words .entry)) k ⌝ }
+    ensures part { λ r. ⌜ (r .start + r .length ≤ length (now (words .entry))) × (take (r .length) (drop (r .start) (now (words .entry))) ≡ actionPart (now (words .entry)) k) ⌝ }
 {
     let loaded = load(words);
     let image = loaded.image;
     let count = image.actions;
     if count <= k {
-        return &words[..0];
+        return Part {
+            start: 0,
+            length: 0,
+        };
     }
     let at = image.action_at[k];
     let vars = image.vars;
     let read = actions::read_action(words, at, vars, true);
     let next = read.next;
     match next {
-        Next::Refused(_) => &words[..0],
-        Next::At(end) => &words[at..end],
+        Next::Refused(_) => Part {
+            start: 0,
+            length: 0,
+        },
+        Next::At(end) => Part {
+            start: at,
+            length: end - at,
+        },
     }
+}
+
+// Action part: the words of action k, as a part of the caller's list; empty where there is no such action or no program.
+pub fn action_part(words: &[u32], k: usize) -> &[u32]
+    ensures answer { λ r. ⌜ now r ≡ actionPart (now (words .entry)) k ⌝ }
+    ensures part { λ r. ⌜ PartOf (now (words .entry)) (now r) ⌝ }
+{
+    let place = part_place(words, k);
+    let start = place.start;
+    let end = start + place.length;
+    &words[start..end]
 }

@@ -1,0 +1,319 @@
+// The calls for C and Rust: lists are lent, answers are records of numbers. include/bulanevior.h describes them for their callers.
+ghost use mathlib.Core.Path.{_≡_};
+ghost use mathlib.Core.Bool.{cond};
+ghost use Prim.Native.Nat.{_+_, _≤_};
+ghost use lib.ListN.{length, take, drop};
+ghost use Rattle.programs.specs.Calls.{read, check, actionPart, partPlace};
+ghost use Rattle.runs.specs.Calls.{stepCall};
+ghost use Rattle.ask.specs.Calls.{ask, TrueIn};
+ghost use Rattle.judge.specs.Calls.{judge, SafeOf};
+ghost use Rattle.judge.specs.declared.Judged.the-variants.{Safe, Refused};
+ghost use Rattle.view.specs.Views.{viewed};
+ghost use Rattle.exports.specs.Numbers.{checkOf, partOf, stepOf, askOf, judgeOf, successorOf};
+use ask::Asked;
+use judge::Judged;
+use programs::Checked;
+use runs::Stepped;
+use view::Viewed;
+use words::Refusal;
+
+#[repr(C)]
+pub struct BnvCheck {
+    // 0 if there is none.
+    pub refusal: u32,
+    pub value: usize,
+    pub variables: usize,
+    pub start_rows: usize,
+    pub predicates: usize,
+    pub actions: usize,
+    pub forbidden: usize,
+}
+
+fn check_of(c: Checked) -> BnvCheck
+    ensures { λ r. ⌜ r ≡ checkOf c ⌝ }
+{
+    match c {
+        Checked::Good(n) => BnvCheck {
+            refusal: 0,
+            value: 0,
+            variables: n.variables,
+            start_rows: n.start_rows,
+            predicates: n.predicates,
+            actions: n.actions,
+            forbidden: n.forbidden,
+        },
+        Checked::Refused(why) => BnvCheck {
+            refusal: words::number_of(why),
+            value: words::value_of(why),
+            variables: 0,
+            start_rows: 0,
+            predicates: 0,
+            actions: 0,
+            forbidden: 0,
+        },
+    }
+}
+
+// Check.
+#[no_mangle]
+pub extern "C" fn bnv_check(words: &[u32]) -> BnvCheck
+    ensures { λ r. ⌜ r ≡ checkOf (check (now (words .entry))) ⌝ }
+{
+    check_of(programs::check(words))
+}
+
+#[repr(C)]
+pub struct BnvPart {
+    pub start: usize,
+    pub length: usize,
+}
+
+// Action part, as its place in the caller's list.
+#[no_mangle]
+pub extern "C" fn bnv_action_part(words: &[u32], k: usize) -> BnvPart
+    ensures answer { λ r. ⌜ r ≡ partOf (partPlace (now (words .entry)) k) ⌝ }
+    ensures part { λ r. ⌜ (take (r .length) (drop (r .start) (now (words .entry))) ≡ actionPart (now (words .entry)) k) × (r .start + r .length ≤ length (now (words .entry))) × (r .length ≡ length (actionPart (now (words .entry)) k)) ⌝ }
+{
+    let part = programs::part_place(words, k);
+    BnvPart {
+        start: part.start,
+        length: part.length,
+    }
+}
+
+#[repr(C)]
+pub struct BnvStep {
+    // 0 moved, 1 not enabled, 2 runs off, 3 refused.
+    pub answer: u32,
+    pub variable: usize,
+    pub refusal: u32,
+    pub value: usize,
+}
+
+fn step_of(s: Stepped) -> BnvStep
+    ensures { λ r. ⌜ r ≡ stepOf s ⌝ }
+{
+    match s {
+        Stepped::Moved => BnvStep {
+            answer: 0,
+            variable: 0,
+            refusal: 0,
+            value: 0,
+        },
+        Stepped::NotEnabled => BnvStep {
+            answer: 1,
+            variable: 0,
+            refusal: 0,
+            value: 0,
+        },
+        Stepped::RunsOff(v) => BnvStep {
+            answer: 2,
+            variable: v,
+            refusal: 0,
+            value: 0,
+        },
+        Stepped::Refused(why) => BnvStep {
+            answer: 3,
+            variable: 0,
+            refusal: words::number_of(why),
+            value: words::value_of(why),
+        },
+    }
+}
+
+// Step.
+#[no_mangle]
+pub extern "C" fn bnv_step(words: &[u32], k: usize, state: &mut [i32]) -> BnvStep
+    ensures answer { λ r. ⌜ r ≡ stepOf (stepCall (now (words .entry)) k (now (state .entry)) .answer) ⌝ }
+    ensures state { λ _. ⌜ now (state .exit) ≡ stepCall (now (words .entry)) k (now (state .entry)) .state ⌝ }
+{
+    step_of(runs::step(words, k, &mut *state))
+}
+
+#[repr(C)]
+pub struct BnvAsk {
+    // 0 accepted, 1 not accepted, 2 refused.
+    pub answer: u32,
+    pub refusal: u32,
+    pub value: usize,
+}
+
+fn ask_of(a: Asked) -> BnvAsk
+    ensures { λ r. ⌜ r ≡ askOf a ⌝ }
+{
+    match a {
+        Asked::Accepted => BnvAsk {
+            answer: 0,
+            refusal: 0,
+            value: 0,
+        },
+        Asked::NotAccepted => BnvAsk {
+            answer: 1,
+            refusal: 0,
+            value: 0,
+        },
+        Asked::Refused(why) => BnvAsk {
+            answer: 2,
+            refusal: words::number_of(why),
+            value: words::value_of(why),
+        },
+    }
+}
+
+// Ask.
+#[no_mangle]
+pub extern "C" fn bnv_ask(words: &[u32], lemmas: &[u32], k: usize) -> BnvAsk
+    ensures answer { λ r. ⌜ r ≡ askOf (ask (now (words .entry)) (now (lemmas .entry)) k) ⌝ }
+    ensures truth { λ r. ⌜ (r .answer ≡ 0 → TrueIn (read (now (words .entry))) (now (lemmas .entry)) k) ⌝ }
+{
+    ask_of(ask::ask(words, lemmas, k))
+}
+
+#[repr(C)]
+pub struct BnvJudge {
+    // 0 safe, 1 may forbid, 2 may run off, 3 refused.
+    pub verdict: u32,
+    pub node: usize,
+    // The forbidden combination, or the action that may run off.
+    pub place: usize,
+    pub variable: usize,
+    // 1 for the high end.
+    pub high: u32,
+    pub nodes: usize,
+    pub edges: usize,
+    pub refusal: u32,
+    pub value: usize,
+}
+
+fn flag(yes: bool) -> u32
+    ensures { λ r. ⌜ r ≡ cond yes 1 0 ⌝ }
+{
+    if yes { 1 } else { 0 }
+}
+
+fn safe(nodes: usize, edges: usize) -> BnvJudge
+    ensures { λ r. ⌜ r ≡ judgeOf (Safe nodes edges) ⌝ }
+{
+    BnvJudge {
+        verdict: 0,
+        node: 0,
+        place: 0,
+        variable: 0,
+        high: 0,
+        nodes,
+        edges,
+        refusal: 0,
+        value: 0,
+    }
+}
+
+fn no_verdict(why: Refusal) -> BnvJudge
+    ensures { λ r. ⌜ r ≡ judgeOf (Refused why) ⌝ }
+{
+    BnvJudge {
+        verdict: 3,
+        node: 0,
+        place: 0,
+        variable: 0,
+        high: 0,
+        nodes: 0,
+        edges: 0,
+        refusal: words::number_of(why),
+        value: words::value_of(why),
+    }
+}
+
+fn judge_of(j: Judged) -> BnvJudge
+    ensures { λ r. ⌜ r ≡ judgeOf j ⌝ }
+{
+    match j {
+        Judged::Safe(nodes, edges) => safe(nodes, edges),
+        Judged::MayForbid(node, bad, nodes, edges) => BnvJudge {
+            verdict: 1,
+            node,
+            place: bad,
+            variable: 0,
+            high: 0,
+            nodes,
+            edges,
+            refusal: 0,
+            value: 0,
+        },
+        Judged::MayRunOff(node, action, variable, high, nodes, edges) => BnvJudge {
+            verdict: 2,
+            node,
+            place: action,
+            variable,
+            high: flag(high),
+            nodes,
+            edges,
+            refusal: 0,
+            value: 0,
+        },
+        Judged::Refused(why) => no_verdict(why),
+    }
+}
+
+// Judge.
+#[no_mangle]
+pub extern "C" fn bnv_judge(
+    words: &[u32],
+    lemmas: &[u32],
+    graph: &mut [u32],
+    path: &mut [u32],
+) -> BnvJudge
+    ensures answer { λ r. ⌜ r ≡ judgeOf (judge (now (words .entry)) (now (lemmas .entry)) (now (graph .entry)) (now (path .entry)) .answer) ⌝ }
+    ensures graph { λ _. ⌜ now (graph .exit) ≡ judge (now (words .entry)) (now (lemmas .entry)) (now (graph .entry)) (now (path .entry)) .graph ⌝ }
+    ensures path { λ _. ⌜ now (path .exit) ≡ judge (now (words .entry)) (now (lemmas .entry)) (now (graph .entry)) (now (path .entry)) .path ⌝ }
+    ensures demand3 { λ r. ⌜ (r .verdict ≡ 0 → SafeOf (read (now (words .entry)))) ⌝ }
+{
+    judge_of(judge::judge(words, lemmas, &mut *graph, &mut *path))
+}
+
+#[repr(C)]
+pub struct BnvSuccessor {
+    // 0 a node, 1 none, 2 refused.
+    pub answer: u32,
+    pub node: usize,
+    pub refusal: u32,
+    pub value: usize,
+}
+
+fn successor_of(v: Viewed) -> BnvSuccessor
+    ensures { λ r. ⌜ r ≡ successorOf v ⌝ }
+{
+    match v {
+        Viewed::Node(n) => BnvSuccessor {
+            answer: 0,
+            node: n,
+            refusal: 0,
+            value: 0,
+        },
+        Viewed::None => BnvSuccessor {
+            answer: 1,
+            node: 0,
+            refusal: 0,
+            value: 0,
+        },
+        Viewed::Refused(why) => BnvSuccessor {
+            answer: 2,
+            node: 0,
+            refusal: words::number_of(why),
+            value: words::value_of(why),
+        },
+    }
+}
+
+// The reading view's successor.
+#[no_mangle]
+pub extern "C" fn bnv_successor(
+    graph: &[u32],
+    nodes: usize,
+    actions: usize,
+    node: usize,
+    action: usize,
+) -> BnvSuccessor
+    ensures { λ r. ⌜ r ≡ successorOf (viewed (now (graph .entry)) nodes actions node action) ⌝ }
+{
+    successor_of(view::successor_of(graph, nodes, actions, node, action))
+}
