@@ -1,0 +1,208 @@
+/*
+ * Bulanevior: a proved checker for the logic of a lighting desk.
+ *
+ * A show's logic is a list of 32-bit words: variables with ranges, start rows, predicates, actions and forbidden combinations.
+ * The calls read such a list, step its actions, weigh lemmas about it, and judge whether any list of actions can bring the show
+ * into a forbidden state or run a variable off its range.
+ *
+ * Link target/staticlib/libexports.a, which `rt staticlib exports` writes, on x86-64 Linux. It needs memcpy and memset and nothing else.
+ *
+ * What the caller owes, at every call:
+ *  - A list is a pointer and a length: two arguments. The length counts elements. A list of length zero is empty whatever its
+ *    pointer, a null pointer too: nothing is read or written through it.
+ *  - A pointer with a length above zero points to that many elements, aligned to 4 bytes, that may be read and, where the list is
+ *    not const, written. Until the call returns nobody else writes them, nor reads those of a list that is not const.
+ *  - The lists of one call do not overlap.
+ *  - 64 KiB of stack beside the lent lists. No call recurses, so its stack does not grow with its input; the bound is measured
+ *    (tests/calls.c) and not proved.
+ *
+ * What the caller gets, whatever stands in the lists and whatever the numbers are:
+ *  - The call returns, with the answer that its definition gives: crates/exports/src/lib.rt has the contracts, which the prover has
+ *    checked and which ask for nothing more than the above, crates/exports/specs/Numbers.antt the definitions.
+ *  - Const lists are only read. Other lists are written as said below and no further: words of a graph list past the first
+ *    9,216 and of a path list past the first 512 never change.
+ *  - Nothing is allocated, no state is kept between calls, and no file, clock or other device is touched. Calls with lists of their
+ *    own may run at the same time.
+ *
+ * Lengths, counts, indices and places are 64-bit numbers, counted from 0. A field that an answer does not use is 0.
+ */
+#ifndef BULANEVIOR_H
+#define BULANEVIOR_H
+
+#include <stddef.h>
+#include <stdint.h>
+
+#ifdef __cplusplus
+extern "C" {
+static_assert(sizeof(size_t) == 8, "64-bit numbers only");
+#else
+_Static_assert(sizeof(size_t) == 8, "64-bit numbers only");
+#endif
+
+/* ---- Words: the kind in bits 31 to 28, the payload in bits 27 to 0. */
+
+#define BNV_KIND(word) ((uint32_t)(word) >> 28)
+#define BNV_PAYLOAD(word) ((uint32_t)(word) & 0x0FFFFFFFu)
+
+#define BNV_VAR 1u    /* a variable's range */
+#define BNV_ROW 2u    /* a row's constant */
+#define BNV_TERM 3u   /* a variable's coefficient in a row */
+#define BNV_INIT 4u   /* how many start rows follow */
+#define BNV_PRED 5u   /* how many predicates follow */
+#define BNV_ACTION 6u /* guard rows and assignments of an action */
+#define BNV_SET 7u    /* an assignment's variable */
+#define BNV_SETS 8u   /* known-false and known-true predicates */
+#define BNV_LEMMA 9u  /* a lemma's source, goal and index */
+#define BNV_MULT 10u  /* a lemma's multiplier */
+#define BNV_ORIGIN 11u /* where a node was first found */
+#define BNV_EDGE 12u  /* a node's successor */
+#define BNV_STEP 13u  /* an action of a path */
+#define BNV_END 15u   /* the end of the logic */
+
+/* ---- Lent lists of bnv_judge: the words that they need at least, and the only ones that are ever written. */
+
+#define BNV_GRAPH_WORDS 9216u
+#define BNV_PATH_WORDS 512u
+
+/*
+ * ---- Refusals: the number in `refusal`; what `value` holds stands behind it. 0 in `refusal` is no refusal.
+ *
+ * A refusal leaves every lent list as it was, but BNV_REFUSED_NODES, which zeroes the first 9,216 words of the graph list.
+ */
+
+#define BNV_REFUSED_SHORT 1u  /* a lent list is too short: 0 the graph list, also the one of bnv_successor; 1 the path list */
+#define BNV_REFUSED_WORD 2u   /* a program word missing, of the wrong kind, after END, or with an unnamed bit: its index, the list's
+                                 length if missing; bnv_successor: the word at that index is no EDGE */
+#define BNV_REFUSED_LIMIT 3u  /* one variable, action or combination too many, or a count too high: the word's index;
+                                 bnv_successor: over 512 nodes or 16 actions: 0 */
+#define BNV_REFUSED_VALUE 4u  /* a program word with a value that is not allowed: its index */
+#define BNV_REFUSED_LEMMA 5u  /* a lemma word missing or against the rules: its index, the list's length if missing */
+#define BNV_REFUSED_LEMMAS 6u /* a 513th lemma: its index */
+#define BNV_REFUSED_NODES 7u  /* a 513th node is needed: 512 */
+#define BNV_REFUSED_ABSENT 8u /* no such action, lemma or node: its number */
+#define BNV_REFUSED_LENGTH 9u /* the state list's length is not the number of variables: that length */
+#define BNV_REFUSED_STATE 10u /* a state value off its range: the lowest such variable */
+#define BNV_REFUSED_SUM 11u   /* a lemma's sum leaves signed 64 bits: the lowest such lemma */
+
+/* ---- Check: is the list a program, and how many variables, start rows, predicates, actions and forbidden combinations has it? */
+
+typedef struct {
+    uint32_t refusal; /* 0, or 2 to 4 */
+    size_t value;     /* the refusal's */
+    size_t variables; /* the five counts, 0 with a refusal */
+    size_t start_rows;
+    size_t predicates;
+    size_t actions;
+    size_t forbidden;
+} BnvCheck;
+
+BnvCheck bnv_check(const uint32_t *words, size_t words_length);
+
+/*
+ * ---- Action part: the words of action k are words[start] up to words[start + length - 1].
+ *
+ * Length 0, with start 0, where the list is no program or has no action k; an action has at least one word.
+ */
+
+typedef struct {
+    size_t start;
+    size_t length;
+} BnvPart;
+
+BnvPart bnv_action_part(const uint32_t *words, size_t words_length, size_t k);
+
+/*
+ * ---- Step: action k, tried on a state, one signed 32-bit value for each variable.
+ *
+ * Only BNV_MOVED writes the state: the new values. Refusals in the order 2 to 4, 8, 9, 10.
+ */
+
+#define BNV_MOVED 0u
+#define BNV_NOT_ENABLED 1u
+#define BNV_RUNS_OFF 2u
+#define BNV_STEP_REFUSED 3u
+
+typedef struct {
+    uint32_t answer;
+    size_t variable;  /* BNV_RUNS_OFF: the lowest variable whose new value is off its range */
+    uint32_t refusal; /* BNV_STEP_REFUSED */
+    size_t value;
+} BnvStep;
+
+BnvStep bnv_step(const uint32_t *words, size_t words_length, size_t k, int32_t *state, size_t state_length);
+
+/*
+ * ---- Ask: is lemma k of the list accepted? An accepted lemma is true of all whole numbers in the ranges.
+ *
+ * Refusals in the order 2 to 4, 5 and 6, 8, 11.
+ */
+
+#define BNV_ACCEPTED 0u
+#define BNV_NOT_ACCEPTED 1u
+#define BNV_ASK_REFUSED 2u
+
+typedef struct {
+    uint32_t answer;
+    uint32_t refusal; /* BNV_ASK_REFUSED */
+    size_t value;
+} BnvAsk;
+
+BnvAsk bnv_ask(const uint32_t *words, size_t words_length, const uint32_t *lemmas, size_t lemmas_length, size_t k);
+
+/*
+ * ---- Judge: the abstract state graph of a program and its lemmas, and one verdict.
+ *
+ * BNV_SAFE: no list of actions, however long, tried from any start state, meets a forbidden state or runs a variable off its range.
+ * That is proved whatever the lemmas are; nobody has to vouch for them. The other two verdicts are findings in the graph; no state
+ * may be able to walk their path.
+ *
+ * A verdict fills the first 9,216 words of the graph list with one record for each node, SETS, ORIGIN and an EDGE for each action,
+ * and zeroes after them; and the first 512 words of the path list with the STEP words that lead to the finding's node, and zeroes
+ * after them. Refusals in the order 1 graph, 1 path, 2 to 4, 5 and 6, 11, 7.
+ */
+
+#define BNV_SAFE 0u
+#define BNV_MAY_FORBID 1u
+#define BNV_MAY_RUN_OFF 2u
+#define BNV_JUDGE_REFUSED 3u
+
+typedef struct {
+    uint32_t verdict;
+    size_t node;      /* a finding's node */
+    size_t place;     /* BNV_MAY_FORBID: the combination; BNV_MAY_RUN_OFF: the action */
+    size_t variable;  /* BNV_MAY_RUN_OFF */
+    uint32_t high;    /* BNV_MAY_RUN_OFF: 1 for the high end of the range, 0 for the low end */
+    size_t nodes;     /* of the graph, with every verdict */
+    size_t edges;     /* EDGE words that name a successor, with every verdict */
+    uint32_t refusal; /* BNV_JUDGE_REFUSED */
+    size_t value;
+} BnvJudge;
+
+BnvJudge bnv_judge(const uint32_t *words, size_t words_length, const uint32_t *lemmas, size_t lemmas_length,
+                   uint32_t *graph, size_t graph_length, uint32_t *path, size_t path_length);
+
+/*
+ * ---- Successor: what the graph list of a verdict says of a node and an action.
+ *
+ * `nodes` is the verdict's, `actions` the program's. Any list and numbers may be given. Refusals in the order 3, 1, 8 for the node,
+ * 8 for the action, 2.
+ */
+
+#define BNV_NODE 0u
+#define BNV_NO_NODE 1u
+#define BNV_SUCCESSOR_REFUSED 2u
+
+typedef struct {
+    uint32_t answer;
+    size_t node;      /* BNV_NODE: the successor's number */
+    uint32_t refusal; /* BNV_SUCCESSOR_REFUSED */
+    size_t value;
+} BnvSuccessor;
+
+BnvSuccessor bnv_successor(const uint32_t *graph, size_t graph_length, size_t nodes, size_t actions, size_t node, size_t action);
+
+#ifdef __cplusplus
+}
+#endif
+
+#endif
