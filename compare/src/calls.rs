@@ -1,0 +1,293 @@
+//! One input through all calls of both sides; every answer and every lent word is compared.
+
+use crate::counts::*;
+use crate::dice::Dice;
+use crate::generate::Input;
+use crate::library::{self, BnvJudge};
+use crate::other;
+use independent::words::{EDGE, GRAPH_WORDS, PATH_WORDS};
+
+/// Words before and behind each lent list that no call may touch.
+const MARGIN: usize = 32;
+const LONGEST: usize = 12_000;
+
+pub struct Compare {
+    pub counts: Counts,
+    /// Calls of the library.
+    pub calls: u64,
+    pattern: Vec<u32>,
+    /// Lent lists with their margins: library, independent.
+    graphs: [Vec<u32>; 2],
+    paths: [Vec<u32>; 2],
+    states: [Vec<i32>; 2],
+}
+
+/// A difference, ready to print.
+pub type Difference = String;
+
+pub fn hexadecimal(name: &str, words: &[u32]) -> String {
+    let mut text = format!("{name} ({} words):", words.len());
+    for (i, w) in words.iter().enumerate() {
+        text.push_str(if i % 12 == 0 { "\n  " } else { " " });
+        text.push_str(&format!("{w:08X}"));
+    }
+    text.push('\n');
+    text
+}
+
+fn differ(input: &Input, call: &str, library: &dyn std::fmt::Debug, other: &dyn std::fmt::Debug) -> Difference {
+    format!(
+        "DIFFERENCE in {call}\n  library     {library:?}\n  independent {other:?}\n{}{}",
+        hexadecimal("program", &input.program),
+        hexadecimal("lemmas", &input.lemmas)
+    )
+}
+
+/// The first place where two lists differ.
+fn first<T: PartialEq + Copy>(a: &[T], b: &[T]) -> Option<usize> {
+    if a == b { None } else { a.iter().zip(b).position(|(x, y)| x != y).or(Some(a.len().min(b.len()))) }
+}
+
+impl Compare {
+    pub fn new(seed: u64) -> Compare {
+        let dice = Dice::new(seed, u64::MAX);
+        Compare {
+            counts: Counts::default(),
+            calls: 0,
+            pattern: (0..LONGEST + 2 * MARGIN + 1024).map(|_| dice.next() as u32).collect(),
+            graphs: Default::default(),
+            paths: Default::default(),
+            states: Default::default(),
+        }
+    }
+
+    pub fn check(&mut self, input: &Input) -> Result<library::BnvCheck, Difference> {
+        let ours = library::check(&input.program);
+        let theirs = other::check(&input.program);
+        self.calls += 1;
+        self.counts.note(check_name(theirs.refusal));
+        if ours == theirs { Ok(theirs) } else { Err(differ(input, "check", &ours, &theirs)) }
+    }
+
+    pub fn action_part(&mut self, input: &Input, k: usize) -> Result<(), Difference> {
+        let ours = library::action_part(&input.program, k);
+        let theirs = other::action_part(&input.program, k);
+        self.calls += 1;
+        self.counts.note(if theirs.length == 0 { "part empty" } else { "part not empty" });
+        // Where an empty part begins is free.
+        let same = if theirs.length == 0 { ours.length == 0 && ours.start <= input.program.len() } else { ours == theirs };
+        if same { Ok(()) } else { Err(differ(input, &format!("action part {k}"), &ours, &theirs)) }
+    }
+
+    pub fn step(&mut self, input: &Input, k: usize, state: &[i32]) -> Result<(), Difference> {
+        for list in &mut self.states {
+            list.clear();
+            list.extend([0x5A5A_5A5A; 4]);
+            list.extend(state);
+            list.extend([0x5A5A_5A5A; 4]);
+        }
+        let lent = 4..4 + state.len();
+        let ours = library::step(&input.program, k, &mut self.states[0][lent.clone()]);
+        let theirs = other::step(&input.program, k, &mut self.states[1][lent]);
+        self.calls += 1;
+        self.counts.note(step_name(theirs.answer, theirs.refusal));
+        if ours != theirs || self.states[0] != self.states[1] {
+            let name = format!("step {k} from {state:?}");
+            return Err(differ(input, &name, &(ours, &self.states[0]), &(theirs, &self.states[1])));
+        }
+        Ok(())
+    }
+
+    /// True if accepted.
+    pub fn ask(&mut self, input: &Input, k: usize) -> Result<u32, Difference> {
+        let ours = library::ask(&input.program, &input.lemmas, k);
+        let theirs = other::ask(&input.program, &input.lemmas, k);
+        self.calls += 1;
+        self.counts.note(ask_name(theirs.answer, theirs.refusal));
+        if ours == theirs { Ok(theirs.answer) } else { Err(differ(input, &format!("ask {k}"), &ours, &theirs)) }
+    }
+
+    /// `graph` and `path` are the lengths lent, `offset` the place in the pattern that fills them.
+    pub fn judge(&mut self, input: &Input, graph: usize, path: usize, offset: usize) -> Result<BnvJudge, Difference> {
+        for (lists, length) in [(&mut self.graphs, graph), (&mut self.paths, path)] {
+            for list in lists {
+                list.clear();
+                list.extend_from_slice(&self.pattern[offset..offset + length + 2 * MARGIN]);
+            }
+        }
+        let (g, p) = (MARGIN..MARGIN + graph, MARGIN..MARGIN + path);
+        let ours = library::judge(
+            &input.program,
+            &input.lemmas,
+            &mut self.graphs[0][g.clone()],
+            &mut self.paths[0][p.clone()],
+        );
+        let theirs = other::judge(&input.program, &input.lemmas, &mut self.graphs[1][g], &mut self.paths[1][p]);
+        self.calls += 1;
+        let name = || format!("judge with lists of {graph} and {path} words");
+        if ours != theirs {
+            return Err(differ(input, &name(), &ours, &theirs));
+        }
+        for (list, lists) in [("graph", &self.graphs), ("path", &self.paths)] {
+            if let Some(at) = first(&lists[0], &lists[1]) {
+                let place = format!("{}: {list} word {}", name(), at as i64 - MARGIN as i64);
+                let word = |side: usize| format!("{:08X} after {ours:?}", lists[side][at]);
+                return Err(differ(input, &place, &word(0), &word(1)));
+            }
+        }
+        self.note_judge(&theirs, path);
+        Ok(theirs)
+    }
+
+    fn note_judge(&mut self, j: &BnvJudge, path: usize) {
+        let counts = &mut self.counts;
+        counts.note(judge_name(j.verdict, j.high, j.refusal, j.value));
+        if j.verdict == 3 {
+            return;
+        }
+        counts.note(nodes_name(j.nodes));
+        if j.verdict == 0 && j.nodes >= 64 {
+            counts.note("safe, 64 nodes or more");
+        }
+        if j.node > 0 {
+            counts.note("finding past node 0");
+        }
+        if j.node > 63 {
+            counts.note("finding past node 63");
+        }
+        if path >= PATH_WORDS && self.paths[1][MARGIN + 63] != 0 {
+            counts.note("path of 64 steps or more");
+        }
+    }
+
+    /// The independent graph list of the last judge.
+    pub fn graph(&self) -> &[u32] {
+        &self.graphs[1][MARGIN..self.graphs[1].len() - MARGIN]
+    }
+
+    pub fn successor(&mut self, graph: &[u32], nodes: usize, actions: usize, node: usize, action: usize) -> Result<(), Difference> {
+        let ours = library::successor(graph, nodes, actions, node, action);
+        let theirs = other::successor(graph, nodes, actions, node, action);
+        self.calls += 1;
+        self.counts.note(match (theirs.answer, theirs.refusal) {
+            (0, _) => "view node",
+            (1, _) => "view none",
+            (_, 1) => "view refusal 1",
+            (_, 2) => "view refusal 2",
+            (_, 3) => "view refusal 3",
+            _ if node >= nodes => "view refusal 8 node",
+            _ => "view refusal 8 action",
+        });
+        if ours == theirs {
+            return Ok(());
+        }
+        Err(format!(
+            "DIFFERENCE in successor of node {node} of {nodes}, action {action} of {actions}\n  library     {ours:?}\n  independent {theirs:?}\n{}",
+            hexadecimal("graph", graph)
+        ))
+    }
+
+    /// All calls on one input. Hands back what judge answered on lists of full length.
+    pub fn all(&mut self, input: &Input, dice: &Dice) -> Result<Option<BnvJudge>, Difference> {
+        let mine = input.clone();
+        let check = self.check(input)?;
+        let odd = [16, 17, 255, 1 << 32, usize::MAX, usize::MAX - 1];
+        let k = dice.below(check.actions + 1);
+        self.action_part(input, k)?;
+        self.action_part(input, if dice.percent(10) { dice.pick(&odd) } else { dice.below(check.actions) })?;
+        for _ in 0..3 {
+            let k = if dice.percent(3) { dice.pick(&odd) } else { dice.below(check.actions + usize::from(dice.percent(5))) };
+            let state = state(dice, &input.program, check.variables);
+            self.step(input, k, &state)?;
+        }
+        let lemmas = input.lemmas.iter().filter(|w| **w >> 28 == 9).count();
+        for _ in 0..2 {
+            let k = if dice.percent(2) { dice.pick(&odd) } else { dice.below(lemmas + usize::from(dice.percent(5))) };
+            self.ask(input, k)?;
+        }
+        let (graph, path) = (length(dice, GRAPH_WORDS, LONGEST), length(dice, PATH_WORDS, 2000));
+        let judged = self.judge(input, graph, path, dice.below(1024))?;
+        if judged.verdict == 0 && input.program.len() > 1 && input.program[input.program.len() - 2] >> 28 == 8 {
+            self.counts.note("safe, combinations named");
+        }
+        if judged.verdict != 3 {
+            self.views(judged.nodes, check.actions, dice)?;
+        } else if dice.percent(3) {
+            self.views(dice.below(20), check.actions, dice)?;
+        }
+        // The words lent for reading are as they were.
+        if mine.program != input.program || mine.lemmas != input.lemmas {
+            return Err(differ(&mine, "a list lent for reading", &input.program, &input.lemmas));
+        }
+        Ok(if judged.verdict == 3 && judged.refusal == 1 { None } else { Some(judged) })
+    }
+
+    /// Questions to the reading view over the graph list of the last judge.
+    fn views(&mut self, nodes: usize, actions: usize, dice: &Dice) -> Result<(), Difference> {
+        let mut list = std::mem::take(&mut self.graphs[1]);
+        let graph = &mut list[MARGIN..];
+        let length = graph.len() - MARGIN;
+        let records = (nodes * (2 + actions)).min(length);
+        let mut ask = |graph: &[u32], nodes: usize, actions: usize, dice: &Dice| {
+            let node = if dice.percent(2) { usize::MAX } else { dice.below(nodes.min(600) + usize::from(dice.percent(10))) };
+            let action = if dice.percent(2) { usize::MAX } else { dice.below(actions.min(20) + usize::from(dice.percent(10))) };
+            self.successor(graph, nodes, actions, node, action)
+        };
+        let mut done = Ok(());
+        for _ in 0..2 {
+            done = done.and_then(|()| ask(&graph[..length], nodes, actions, dice));
+        }
+        done = done.and_then(|()| ask(&graph[..records], nodes, actions, dice));
+        done = done.and_then(|()| match dice.below(6) {
+            0 => ask(&graph[..records.saturating_sub(1 + dice.below(3))], nodes, actions, dice),
+            1 => ask(&graph[..length], dice.pick(&[0, 512, 513, usize::MAX]), actions, dice),
+            2 => ask(&graph[..length], nodes, dice.pick(&[0, 16, 17, usize::MAX]), dice),
+            3 => ask(&graph[..length], nodes + dice.below(3), actions + dice.below(2), dice),
+            4 => ask(&[], dice.below(2), dice.below(3), dice),
+            _ => {
+                for _ in 0..1 + records / 4 {
+                    let at = dice.below(records.max(1));
+                    graph[at] = if dice.percent(50) { dice.next() as u32 } else { EDGE << 28 | graph[at] >> 4 };
+                }
+                ask(&graph[..length], nodes, actions, dice)
+            }
+        });
+        self.graphs[1] = list;
+        done
+    }
+}
+
+/// Mostly the least length; now and then longer or too short.
+fn length(dice: &Dice, least: usize, most: usize) -> usize {
+    match dice.below(100) {
+        0..=74 => least,
+        75..=93 => least + 1 + dice.below(64),
+        94 => most,
+        95 | 96 => least - 1,
+        97 => 0,
+        98 => dice.below(least),
+        _ => least + dice.below(most - least),
+    }
+}
+
+/// A state list for a program: mostly in its ranges, often at their ends.
+fn state(dice: &Dice, program: &[u32], variables: usize) -> Vec<i32> {
+    let count = if dice.percent(96) { variables } else { dice.below(variables + 3) };
+    let off = dice.percent(5);
+    (0..count)
+        .map(|v| {
+            let w = program.get(v).copied().unwrap_or(0);
+            let (low, high) = ((w << 4) as i32 >> 18, (w << 18) as i32 >> 18);
+            if off && dice.percent(30) {
+                return dice.pick(&[low - 1, high + 1, i32::MIN, i32::MAX, dice.next() as i32]);
+            }
+            match dice.below(6) {
+                0 => low,
+                1 => high,
+                2 => (low + 1).min(high),
+                3 => (high - 1).max(low),
+                _ => dice.between(low, high),
+            }
+        })
+        .collect()
+}

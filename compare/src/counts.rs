@@ -1,0 +1,116 @@
+//! How often each answer occurred.
+
+use std::collections::BTreeMap;
+
+#[derive(Default)]
+pub struct Counts(BTreeMap<&'static str, u64>);
+
+/// What must occur often in a run, in the order printed.
+pub const DUE: &[&str] = &[
+    "check good", "check refusal 2", "check refusal 3", "check refusal 4",
+    "part empty", "part not empty",
+    "step moved", "step not enabled", "step runs off", "step refusal 2", "step refusal 3", "step refusal 4",
+    "step refusal 8", "step refusal 9", "step refusal 10",
+    "ask accepted", "ask not accepted", "ask refusal 2", "ask refusal 3", "ask refusal 4", "ask refusal 5",
+    "ask refusal 6", "ask refusal 8",
+    "judge safe", "judge forbid", "judge run-off low", "judge run-off high",
+    "judge refusal 1 graph", "judge refusal 1 path", "judge refusal 2", "judge refusal 3", "judge refusal 4",
+    "judge refusal 5", "judge refusal 6", "judge refusal 7",
+    "finding past node 0", "finding past node 63", "path of 64 steps or more", "safe, combinations named", "safe, 64 nodes or more",
+    "nodes 0", "nodes 1", "nodes 2 to 15", "nodes 16 to 63", "nodes 64 to 127", "nodes 128 to 255", "nodes 256 to 511", "nodes 512",
+    "view node", "view none", "view refusal 1", "view refusal 2", "view refusal 3", "view refusal 8 node", "view refusal 8 action",
+    "all states walked", "all states walked, safe", "all states walked, safe, 2 nodes or more",
+    "accepted lemma, all states", "reachable states, safe",
+];
+
+impl Counts {
+    pub fn note(&mut self, name: &'static str) {
+        self.add(name, 1);
+    }
+
+    pub fn add(&mut self, name: &'static str, n: u64) {
+        debug_assert!(DUE.contains(&name), "{name}");
+        *self.0.entry(name).or_default() += n;
+    }
+
+    pub fn of(&self, name: &str) -> u64 {
+        self.0.get(name).copied().unwrap_or(0)
+    }
+
+    /// Prints all, and hands back those under `least`.
+    pub fn print(&self, least: u64) -> Vec<&'static str> {
+        for pair in DUE.chunks(2) {
+            for name in pair {
+                print!("  {name:<44}{:>9}", self.of(name));
+            }
+            println!();
+        }
+        DUE.iter().copied().filter(|name| self.of(name) < least).collect()
+    }
+}
+
+pub fn check_name(refusal: u32) -> &'static str {
+    match refusal {
+        0 => "check good",
+        2 => "check refusal 2",
+        3 => "check refusal 3",
+        _ => "check refusal 4",
+    }
+}
+
+pub fn step_name(answer: u32, refusal: u32) -> &'static str {
+    match (answer, refusal) {
+        (0, _) => "step moved",
+        (1, _) => "step not enabled",
+        (2, _) => "step runs off",
+        (_, 2) => "step refusal 2",
+        (_, 3) => "step refusal 3",
+        (_, 4) => "step refusal 4",
+        (_, 8) => "step refusal 8",
+        (_, 9) => "step refusal 9",
+        _ => "step refusal 10",
+    }
+}
+
+pub fn ask_name(answer: u32, refusal: u32) -> &'static str {
+    match (answer, refusal) {
+        (0, _) => "ask accepted",
+        (1, _) => "ask not accepted",
+        (_, 2) => "ask refusal 2",
+        (_, 3) => "ask refusal 3",
+        (_, 4) => "ask refusal 4",
+        (_, 5) => "ask refusal 5",
+        (_, 6) => "ask refusal 6",
+        _ => "ask refusal 8",
+    }
+}
+
+pub fn judge_name(verdict: u32, high: u32, refusal: u32, value: usize) -> &'static str {
+    match (verdict, high, refusal, value) {
+        (0, _, _, _) => "judge safe",
+        (1, _, _, _) => "judge forbid",
+        (2, 0, _, _) => "judge run-off low",
+        (2, _, _, _) => "judge run-off high",
+        (_, _, 1, 0) => "judge refusal 1 graph",
+        (_, _, 1, _) => "judge refusal 1 path",
+        (_, _, 2, _) => "judge refusal 2",
+        (_, _, 3, _) => "judge refusal 3",
+        (_, _, 4, _) => "judge refusal 4",
+        (_, _, 5, _) => "judge refusal 5",
+        (_, _, 6, _) => "judge refusal 6",
+        _ => "judge refusal 7",
+    }
+}
+
+pub fn nodes_name(nodes: usize) -> &'static str {
+    match nodes {
+        0 => "nodes 0",
+        1 => "nodes 1",
+        2..=15 => "nodes 2 to 15",
+        16..=63 => "nodes 16 to 63",
+        64..=127 => "nodes 64 to 127",
+        128..=255 => "nodes 128 to 255",
+        256..=511 => "nodes 256 to 511",
+        _ => "nodes 512",
+    }
+}

@@ -1,0 +1,144 @@
+//! Compares the proved library with the independent code: `compare [INPUTS [SEED]]`, by default 100,000 inputs and seed 1.
+//! Ends with status 1 at the first difference, or if some answer occurred too seldom.
+
+mod calls;
+mod counts;
+mod dice;
+mod generate;
+mod library;
+mod other;
+mod prover;
+mod states;
+mod sweep;
+
+use calls::{hexadecimal, Compare, Difference};
+use dice::Dice;
+use generate::Input;
+use library::BnvJudge;
+use std::process::ExitCode;
+use std::time::Instant;
+
+/// States of a logic that are walked through, for a made logic and for a damaged one.
+const STATES: usize = 2_000;
+const STATES_DAMAGED: usize = 300;
+
+/// Holds the verdict and the accepted lemmas to all states, where they are few.
+fn walk(compare: &mut Compare, input: &Input, judged: &BnvJudge, most: usize) -> Result<(), Difference> {
+    let Ok(program) = independent::program::read(&input.program) else { return Ok(()) };
+    let Some(states) = states::count(&program, most) else { return Ok(()) };
+    let Ok(lemmas) = independent::lemma::read(&program, &input.lemmas) else { return Ok(()) };
+    if states * lemmas.len() > 200_000 {
+        return Ok(());
+    }
+    let mut accepted = Vec::new();
+    for (k, lemma) in lemmas.iter().enumerate() {
+        // Long lists are read whole for each question: ask the library about some of those.
+        let answer = if lemmas.len() <= 64 || k % 16 == 0 {
+            compare.ask(input, k)? == 0
+        } else {
+            independent::lemma::weigh(&program, lemma) == Some(true)
+        };
+        if answer {
+            accepted.push(lemma);
+        }
+    }
+    let walked = states::walk(&program, states, &accepted, judged.verdict == 0).map_err(|fault| {
+        format!(
+            "FALSE: {fault}\n  {judged:?}\n{}{}",
+            hexadecimal("program", &input.program),
+            hexadecimal("lemmas", &input.lemmas)
+        )
+    })?;
+    let counts = &mut compare.counts;
+    counts.note("all states walked");
+    counts.add("accepted lemma, all states", walked.lemmas as u64);
+    if judged.verdict == 0 {
+        counts.note("all states walked, safe");
+        counts.add("reachable states, safe", walked.reachable as u64);
+        if judged.nodes > 1 {
+            counts.note("all states walked, safe, 2 nodes or more");
+        }
+    }
+    Ok(())
+}
+
+/// A logic, then damaged copies of it, then now and then noise, until there are `inputs`.
+fn run(compare: &mut Compare, inputs: u64, seed: u64) -> Result<u64, Difference> {
+    let mut done = 0;
+    let mut logics = 0;
+    while done < inputs {
+        let at = |fault: Difference| format!("seed {seed}, logic {logics}\n{fault}");
+        let dice = Dice::new(seed, logics);
+        let base = generate::base(&dice);
+        if let Some(judged) = compare.all(&base.input, &dice).map_err(at)? {
+            if base.few && judged.verdict != 3 {
+                walk(compare, &base.input, &judged, STATES).map_err(at)?;
+            }
+        }
+        done += 1;
+        for _ in 0..5 {
+            let input = generate::damaged(&dice, &base.input);
+            if let Some(judged) = compare.all(&input, &dice).map_err(at)? {
+                if base.few && judged.verdict != 3 {
+                    walk(compare, &input, &judged, STATES_DAMAGED).map_err(at)?;
+                }
+            }
+            done += 1;
+        }
+        if logics % 2 == 0 {
+            let input = generate::noise(&dice);
+            compare.all(&input, &dice).map_err(at)?;
+            done += 1;
+        }
+        logics += 1;
+    }
+    println!("{done} inputs from {logics} logics, {} calls of each side", compare.calls);
+    Ok(done)
+}
+
+fn main() -> ExitCode {
+    let mut numbers = [100_000, 1];
+    for (to, argument) in numbers.iter_mut().zip(std::env::args().skip(1)) {
+        match argument.parse() {
+            Ok(number) => *to = number,
+            Err(_) => {
+                eprintln!("usage: compare [INPUTS [SEED]]");
+                return ExitCode::from(2);
+            }
+        }
+    }
+    let [inputs, seed] = numbers;
+    println!("seed {seed}");
+    let mut began = Instant::now();
+    let mut part = |name: &str| {
+        println!("{name}: {:.1} s", began.elapsed().as_secs_f64());
+        began = Instant::now();
+    };
+
+    let mut compare = Compare::new(seed);
+    match sweep::sweep(&mut compare) {
+        Ok(inputs) => println!("{inputs} inputs of the sweeps, {} calls of each side", compare.calls),
+        Err(fault) => {
+            println!("{fault}");
+            return ExitCode::from(1);
+        }
+    }
+    part("sweeps");
+
+    // The sweeps do not count towards what must occur often.
+    let mut compare = Compare::new(seed);
+    if let Err(fault) = run(&mut compare, inputs, seed) {
+        println!("{fault}");
+        return ExitCode::from(1);
+    }
+    let least = if inputs < 100_000 { inputs / 1000 } else { 100 };
+    let seldom = compare.counts.print(least);
+    part("inputs");
+    if seldom.is_empty() {
+        println!("no difference");
+        ExitCode::SUCCESS
+    } else {
+        println!("fewer than {least}: {}", seldom.join(", "));
+        ExitCode::from(1)
+    }
+}
