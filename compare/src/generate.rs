@@ -178,9 +178,9 @@ fn rig(dice: &Dice) -> Text {
 fn odometer(dice: &Dice) -> Text {
     let mut t = Text::default();
     let mut states = 1;
-    let target = dice.pick(&[30, 100, 300, 512, 512, 700]);
+    let target = dice.pick(&[30, 100, 300, 512, 512, 512, 700]);
     while t.vars.len() < 8 {
-        let top = dice.between(1, 3);
+        let top = dice.pick(&[1, 1, 2, 3, 3]);
         if states * (top + 1) > target || t.pred.len() + top as usize > 14 {
             break;
         }
@@ -211,11 +211,11 @@ fn odometer(dice: &Dice) -> Text {
 fn forced(dice: &Dice) -> (Text, Vec<Vec<u32>>) {
     match dice.below(10) {
         0 | 1 => {
-            let (t, l) = counter(dice.pick(&[1, 3, 5, 6, 7, 8, 9, 9, 10]), &[]);
+            let (t, l) = counter(dice.pick(&[1, 3, 5, 6, 7, 8, 9, 9, 9, 10]), &[]);
             return (t, split_lemmas(&l));
         }
         2 => {
-            let bits = dice.pick(&[3, 5, 6, 7, 8, 9, 9, 10]);
+            let bits = dice.pick(&[3, 5, 6, 7, 8, 9, 9, 9, 10]);
             let (t, l) = subsets_text(bits, bits + dice.pick(&[0, 0, 1, 16 - bits]));
             return (t, split_lemmas(&l));
         }
@@ -390,43 +390,19 @@ fn forbid(dice: &Dice, t: &mut Text, lemmas: &[u32]) {
     }
 }
 
-pub struct Base {
-    pub input: Input,
-    /// Few enough states to walk through them all.
-    pub few: bool,
-}
-
 /// A logic with lemmas.
-pub fn base(dice: &Dice) -> Base {
-    let (mut t, mut lemmas, few) = match dice.below(100) {
-        0..=49 => {
-            let t = boxes(dice, true);
-            let l = prove(&t, dice);
-            (t, l, true)
-        }
-        50..=63 => {
-            let t = boxes(dice, false);
-            let l = prove(&t, dice);
-            (t, l, false)
-        }
-        64..=71 => {
-            let t = rig(dice);
-            let l = prove(&t, dice);
-            (t, l, false)
-        }
-        72..=77 => {
-            let t = odometer(dice);
-            let l = prove(&t, dice);
-            (t, l, true)
-        }
-        78..=89 => {
-            let (t, l) = forced(dice);
-            (t, l, true)
-        }
-        _ => {
-            let (t, l) = general(dice);
-            (t, l, false)
-        }
+pub fn logic(dice: &Dice) -> Input {
+    let proved = |t: Text| {
+        let lemmas = prove(&t, dice);
+        (t, lemmas)
+    };
+    let (mut t, mut lemmas) = match dice.below(100) {
+        0..=43 => proved(boxes(dice, true)),
+        44..=54 => proved(boxes(dice, false)),
+        55..=65 => proved(rig(dice)),
+        66..=75 => proved(odometer(dice)),
+        76..=90 => forced(dice),
+        _ => general(dice),
     };
     // Lemmas left out, more premises, other multipliers, other order.
     if dice.percent(35) && !lemmas.is_empty() {
@@ -466,7 +442,7 @@ pub fn base(dice: &Dice) -> Base {
     }
     let lemmas = lemmas.concat();
     forbid(dice, &mut t, &lemmas);
-    Base { input: Input { program: t.words(), lemmas }, few }
+    Input { program: t.words(), lemmas }
 }
 
 fn damage_words(dice: &Dice, words: &mut Vec<u32>) {

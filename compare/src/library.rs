@@ -70,35 +70,47 @@ pub struct BnvSuccessor {
 mod linked {
     use super::*;
 
-    // A slice crosses as pointer and length; nothing is kept after the call.
-    #[allow(improper_ctypes)]
+    // A slice crosses as two arguments, pointer and length. Declared as `&[u32]` it would cross as one value of two
+    // words, which lies elsewhere once the registers are used up, as they are in bnv_judge.
     extern "C" {
-        fn bnv_check(words: &[u32]) -> BnvCheck;
-        fn bnv_action_part(words: &[u32], k: usize) -> BnvPart;
-        fn bnv_step(words: &[u32], k: usize, state: &mut [i32]) -> BnvStep;
-        fn bnv_ask(words: &[u32], lemmas: &[u32], k: usize) -> BnvAsk;
-        fn bnv_judge(words: &[u32], lemmas: &[u32], graph: &mut [u32], path: &mut [u32]) -> BnvJudge;
-        fn bnv_successor(graph: &[u32], nodes: usize, actions: usize, node: usize, action: usize) -> BnvSuccessor;
+        fn bnv_check(words: *const u32, n: usize) -> BnvCheck;
+        fn bnv_action_part(words: *const u32, n: usize, k: usize) -> BnvPart;
+        fn bnv_step(words: *const u32, n: usize, k: usize, state: *mut i32, s: usize) -> BnvStep;
+        fn bnv_ask(words: *const u32, n: usize, lemmas: *const u32, m: usize, k: usize) -> BnvAsk;
+        fn bnv_judge(
+            words: *const u32,
+            n: usize,
+            lemmas: *const u32,
+            m: usize,
+            graph: *mut u32,
+            g: usize,
+            path: *mut u32,
+            p: usize,
+        ) -> BnvJudge;
+        fn bnv_successor(graph: *const u32, g: usize, nodes: usize, actions: usize, node: usize, action: usize) -> BnvSuccessor;
     }
 
-    // Every call is total: it asks nothing of its lists and numbers.
+    // Every call is total: it asks nothing of its lists and numbers, and keeps nothing.
     pub fn check(words: &[u32]) -> BnvCheck {
-        unsafe { bnv_check(words) }
+        unsafe { bnv_check(words.as_ptr(), words.len()) }
     }
     pub fn action_part(words: &[u32], k: usize) -> BnvPart {
-        unsafe { bnv_action_part(words, k) }
+        unsafe { bnv_action_part(words.as_ptr(), words.len(), k) }
     }
     pub fn step(words: &[u32], k: usize, state: &mut [i32]) -> BnvStep {
-        unsafe { bnv_step(words, k, state) }
+        unsafe { bnv_step(words.as_ptr(), words.len(), k, state.as_mut_ptr(), state.len()) }
     }
     pub fn ask(words: &[u32], lemmas: &[u32], k: usize) -> BnvAsk {
-        unsafe { bnv_ask(words, lemmas, k) }
+        unsafe { bnv_ask(words.as_ptr(), words.len(), lemmas.as_ptr(), lemmas.len(), k) }
     }
     pub fn judge(words: &[u32], lemmas: &[u32], graph: &mut [u32], path: &mut [u32]) -> BnvJudge {
-        unsafe { bnv_judge(words, lemmas, graph, path) }
+        let (g, p) = (graph.len(), path.len());
+        unsafe {
+            bnv_judge(words.as_ptr(), words.len(), lemmas.as_ptr(), lemmas.len(), graph.as_mut_ptr(), g, path.as_mut_ptr(), p)
+        }
     }
     pub fn successor(graph: &[u32], nodes: usize, actions: usize, node: usize, action: usize) -> BnvSuccessor {
-        unsafe { bnv_successor(graph, nodes, actions, node, action) }
+        unsafe { bnv_successor(graph.as_ptr(), graph.len(), nodes, actions, node, action) }
     }
 }
 

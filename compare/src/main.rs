@@ -69,19 +69,13 @@ fn run(compare: &mut Compare, inputs: u64, seed: u64) -> Result<u64, Difference>
     while done < inputs {
         let at = |fault: Difference| format!("seed {seed}, logic {logics}\n{fault}");
         let dice = Dice::new(seed, logics);
-        let base = generate::base(&dice);
-        if let Some(judged) = compare.all(&base.input, &dice).map_err(at)? {
-            if base.few && judged.verdict != 3 {
-                walk(compare, &base.input, &judged, STATES).map_err(at)?;
-            }
-        }
-        done += 1;
-        for _ in 0..5 {
-            let input = generate::damaged(&dice, &base.input);
-            if let Some(judged) = compare.all(&input, &dice).map_err(at)? {
-                if base.few && judged.verdict != 3 {
-                    walk(compare, &input, &judged, STATES_DAMAGED).map_err(at)?;
-                }
+        let logic = generate::logic(&dice);
+        for copy in 0..6 {
+            let (input, most) =
+                if copy == 0 { (logic.clone(), STATES) } else { (generate::damaged(&dice, &logic), STATES_DAMAGED) };
+            let judged = compare.all(&input, &dice).map_err(at)?;
+            if let Some(judged) = judged.filter(|j| j.verdict != 3) {
+                walk(compare, &input, &judged, most).map_err(at)?;
             }
             done += 1;
         }
@@ -116,6 +110,16 @@ fn main() -> ExitCode {
     };
 
     let mut compare = Compare::new(seed);
+    if let Err(fault) = run(&mut compare, inputs, seed) {
+        println!("{fault}");
+        return ExitCode::from(1);
+    }
+    let least = if inputs < 100_000 { inputs / 1000 } else { 100 };
+    let seldom = compare.counts.print(least);
+    part("inputs");
+
+    // The sweeps do not count towards what must occur often.
+    let mut compare = Compare::new(seed);
     match sweep::sweep(&mut compare) {
         Ok(inputs) => println!("{inputs} inputs of the sweeps, {} calls of each side", compare.calls),
         Err(fault) => {
@@ -124,16 +128,6 @@ fn main() -> ExitCode {
         }
     }
     part("sweeps");
-
-    // The sweeps do not count towards what must occur often.
-    let mut compare = Compare::new(seed);
-    if let Err(fault) = run(&mut compare, inputs, seed) {
-        println!("{fault}");
-        return ExitCode::from(1);
-    }
-    let least = if inputs < 100_000 { inputs / 1000 } else { 100 };
-    let seldom = compare.counts.print(least);
-    part("inputs");
     if seldom.is_empty() {
         println!("no difference");
         ExitCode::SUCCESS

@@ -128,9 +128,7 @@ impl Sweep<'_> {
         let state = [0, 1, 2, 3, 4, 5, 6, 7];
         self.compare.step(input, at % 16, &state)?;
         self.compare.ask(input, 0)?;
-        if at % 4 == 0 {
-            self.compare.judge(input, GRAPH_WORDS + 3, PATH_WORDS + 3, 0)?;
-        }
+        self.compare.judge(input, GRAPH_WORDS + 3, PATH_WORDS + 3, 0)?;
         Ok(())
     }
 

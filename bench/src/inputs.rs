@@ -1,0 +1,152 @@
+//! The words that are timed.
+
+use independent::shows::*;
+use independent::words::*;
+
+#[derive(Clone)]
+pub struct Show {
+    pub name: String,
+    pub program: Vec<u32>,
+    pub lemmas: Vec<u32>,
+    /// How many lemmas there are.
+    pub count: usize,
+    pub nodes: usize,
+    /// A logic of the same size and a state at which its last action moves.
+    pub stepped: Vec<u32>,
+    pub state: Vec<i32>,
+}
+
+/// Eight terms.
+fn wide(constant: i32, turn: u32) -> RowText {
+    (constant, (0..8).map(|v| (v, if (v + turn) % 2 == 0 { 1 } else { -1 })).collect())
+}
+
+/// The largest logic: every count at its limit, every row with eight terms. Where `closed`, the last start row and the
+/// last guard row of each action never hold, so that any lemma with enough of that row is accepted.
+fn logic(closed: bool) -> Text {
+    let rows = |count: u32| -> Vec<RowText> {
+        (0..count).map(|i| wide(if closed && i == count - 1 { -1_000_000 } else { 0 }, i)).collect()
+    };
+    Text {
+        vars: vec![(-8192, 8191); 8],
+        init: rows(8),
+        pred: (0..14).map(|i| wide(i, i as u32)).collect(),
+        actions: (0..16).map(|_| act(&rows(8), &(0..8).map(|v| (v, wide(0, v))).collect::<Vec<_>>())).collect(),
+        // Predicate 13 holds at every node, and each combination wants it to fail.
+        bad: (0..8).map(|i| (1 << 13, 1 << i)).collect(),
+    }
+}
+
+/// A lemma with no multiplier 0.
+fn full(t: &Text, source: u32, goal: u32, index: u32, f: u32, tr: u32) -> Vec<u32> {
+    let mut multipliers = vec![1; t.due(source, goal, f, tr)];
+    *multipliers.last_mut().unwrap() = 65_535;
+    lemma(source, goal, index, f, tr, &multipliers)
+}
+
+/// Up to 512 lemmas, filled up with ones of 14 premises that no node has.
+fn fill(t: &Text, lemmas: &mut Vec<Vec<u32>>) {
+    assert!(lemmas.len() <= 512, "{} lemmas", lemmas.len());
+    while lemmas.len() < 512 {
+        let i = lemmas.len() as u32;
+        lemmas.push(full(t, i % 16, 1 + i / 16 % 2, i / 32 % 13, 1 << 13, 0x1FFF));
+    }
+}
+
+/// Predicates 14 - `steady` and up hold at the start and after each action; every end is shown.
+fn frame(t: &Text, steady: u32) -> Vec<Vec<u32>> {
+    let held = held(steady);
+    let mut lemmas = Vec::new();
+    for p in 14 - steady..14 {
+        lemmas.push(full(t, START, 1, p, 0, 0));
+        lemmas.extend((0..16).map(|a| full(t, a, 1, p, 0, held)));
+    }
+    for a in 0..16 {
+        for v in 0..8 {
+            lemmas.extend([3, 4].map(|goal| full(t, a, goal, v, 0, held)));
+        }
+    }
+    lemmas
+}
+
+fn held(steady: u32) -> u32 {
+    0x3FFF & !((1 << (14 - steady)) - 1)
+}
+
+/// Action i makes predicate i hold, the others of the first `bits` stay if they hold; further actions change nothing.
+fn subsets(t: &Text, bits: u32, steady: u32) -> Vec<Vec<u32>> {
+    let mut lemmas = frame(t, steady);
+    for a in 0..16 {
+        for p in 0..bits {
+            let premise = if a == p { 0 } else { 1 << p };
+            lemmas.push(full(t, a, 1, p, 0, premise | held(steady)));
+        }
+    }
+    lemmas
+}
+
+/// Nine predicates as a number: action a leads from n to (16 n + a) mod 512.
+fn shifts(t: &Text, steady: u32) -> Vec<Vec<u32>> {
+    let mut lemmas = frame(t, steady);
+    lemmas.extend((0..9).map(|p| full(t, START, 2, p, 0, 0)));
+    for a in 0..16 {
+        lemmas.extend((0..4).map(|p| full(t, a, if a >> p & 1 == 1 { 1 } else { 2 }, p, 0, held(steady))));
+        for p in 4..9 {
+            lemmas.push(full(t, a, 1, p, 0, 1 << (p - 4) | held(steady)));
+            lemmas.push(full(t, a, 2, p, 1 << (p - 4), held(steady)));
+        }
+    }
+    lemmas
+}
+
+fn show(name: String, t: &Text, lemmas: &[Vec<u32>], nodes: usize) -> Show {
+    Show {
+        name,
+        program: t.words(),
+        lemmas: lemmas.concat(),
+        count: lemmas.len(),
+        nodes,
+        stepped: logic(false).words(),
+        state: vec![0; 8],
+    }
+}
+
+/// The largest logic and 512 lemmas with a graph of so many nodes, a power of 2.
+pub fn largest(nodes: usize) -> Show {
+    let t = logic(true);
+    let mut lemmas = subsets(&t, nodes.trailing_zeros(), 1);
+    fill(&t, &mut lemmas);
+    show(format!("largest, 512 lemmas, nodes: {nodes}"), &t, &lemmas, nodes)
+}
+
+pub fn rig8() -> Show {
+    let (program, lemmas) = independent::shows::show("rig8");
+    let count = lemmas.iter().filter(|w| kind(**w) == LEMMA).count();
+    Show { name: "rig8".to_string(), stepped: program.clone(), program, lemmas, count, nodes: 500, state: vec![500; 8] }
+}
+
+/// 512 nodes, 16 actions, 512 accepted lemmas without a multiplier 0, in several arrangements.
+pub fn arrangements() -> Vec<Show> {
+    let t = logic(true);
+    let mut all = Vec::new();
+    for (shape, steady, mut lemmas) in
+        [("subsets", 1, subsets(&t, 9, 1)), ("subsets", 5, subsets(&t, 9, 5)), ("shifts", 1, shifts(&t, 1))]
+    {
+        fill(&t, &mut lemmas);
+        let mut put = |order: &str, lemmas: &[Vec<u32>]| {
+            all.push(show(format!("{shape}, {steady} steady, {order}"), &t, lemmas, 512));
+        };
+        put("as made", &lemmas);
+        lemmas.reverse();
+        put("reversed", &lemmas);
+        lemmas.sort_by_key(|l| l[0]);
+        put("by source", &lemmas);
+        let mut z = 1u64;
+        for i in (1..lemmas.len()).rev() {
+            z = z.wrapping_mul(6_364_136_223_846_793_005).wrapping_add(1_442_695_040_888_963_407);
+            lemmas.swap(i, (z >> 33) as usize % (i + 1));
+        }
+        put("mixed", &lemmas);
+    }
+    all
+}

@@ -1,0 +1,200 @@
+//! Time per call of the proved library against the independent code, both built for release, on the same words in the same
+//! run, and the stack of one call. `bench [MILLISECONDS]`: how long each side of each cell is called, 200 by default.
+
+mod inputs;
+#[allow(dead_code)]
+#[path = "../../compare/src/library.rs"]
+mod library;
+#[allow(dead_code)]
+#[path = "../../compare/src/other.rs"]
+mod other;
+mod stack;
+
+use independent::words::{GRAPH_WORDS, PATH_WORDS};
+use inputs::Show;
+use std::hint::black_box;
+
+const ROUNDS: u32 = 40;
+
+/// The processor time of this thread, in seconds: what else the machine does counts less than on a wall clock.
+fn now() -> f64 {
+    #[repr(C)]
+    struct Time {
+        seconds: i64,
+        nanoseconds: i64,
+    }
+    extern "C" {
+        fn clock_gettime(clock: i32, time: *mut Time) -> i32;
+    }
+    const THREAD: i32 = 3;
+    let mut time = Time { seconds: 0, nanoseconds: 0 };
+    unsafe { clock_gettime(THREAD, &mut time) };
+    time.seconds as f64 + time.nanoseconds as f64 * 1e-9
+}
+
+/// Microseconds per call: the least of the averages of the rounds. The two sides take turns.
+fn times(span: f64, mut library: impl FnMut(), mut other: impl FnMut()) -> (f64, f64) {
+    let mut calls = [0u32; 2];
+    let mut best = [f64::MAX; 2];
+    // How many calls make a round.
+    for (side, calls) in calls.iter_mut().enumerate() {
+        let began = now();
+        while *calls < 2 || now() - began < span / f64::from(ROUNDS) {
+            if side == 0 { library() } else { other() }
+            *calls += 1;
+        }
+    }
+    for _ in 0..ROUNDS {
+        for side in 0..2 {
+            let began = now();
+            for _ in 0..calls[side] {
+                if side == 0 { library() } else { other() }
+            }
+            best[side] = best[side].min((now() - began) * 1e6 / f64::from(calls[side]));
+        }
+    }
+    (best[0], best[1])
+}
+
+struct Lists {
+    graph: Vec<u32>,
+    path: Vec<u32>,
+}
+
+struct Table {
+    /// Seconds for each side of a cell.
+    span: f64,
+    lists: Lists,
+    /// Library time of the row before, per call.
+    before: [Option<f64>; 4],
+}
+
+impl Table {
+    fn head() {
+        println!(
+            "{:<42} {:<6} {:>11} {:>11} {:>6} {:>7}",
+            "input", "call", "library us", "other us", "ratio", "growth"
+        );
+    }
+
+    fn cell(&mut self, row: &str, call: usize, (library, other): (f64, f64), growth: bool) {
+        let name = ["check", "step", "ask", "judge"][call];
+        let grown = match self.before[call] {
+            Some(before) if growth => format!("{:.2}", library / before),
+            _ => "-".to_string(),
+        };
+        println!("{row:<42} {name:<6} {library:>11.2} {other:>11.2} {:>6.2} {grown:>7}", library / other);
+        self.before[call] = Some(library);
+    }
+
+    fn judge(&mut self, show: &Show) -> (f64, f64) {
+        // Both sides must agree on the input before they are timed.
+        let Lists { graph, path } = &mut self.lists;
+        let ours = library::judge(&show.program, &show.lemmas, graph, path);
+        let (graph_1, path_1) = (graph.clone(), path.clone());
+        let theirs = other::judge(&show.program, &show.lemmas, graph, path);
+        assert_eq!(ours, theirs, "{}", show.name);
+        assert!(graph_1 == *graph && path_1 == *path, "{}", show.name);
+        assert_eq!((ours.verdict, ours.nodes), (0, show.nodes), "{}: {ours:?}", show.name);
+        let mut more = Lists { graph: vec![0; GRAPH_WORDS], path: vec![0; PATH_WORDS] };
+        times(
+            self.span,
+            || {
+                black_box(library::judge(black_box(&show.program), black_box(&show.lemmas), graph, path));
+            },
+            || {
+                black_box(other::judge(black_box(&show.program), black_box(&show.lemmas), &mut more.graph, &mut more.path));
+            },
+        )
+    }
+
+    /// All four calls on one show.
+    fn row(&mut self, show: &Show, growth: bool) {
+        let (program, lemmas) = (&show.program, &show.lemmas);
+        let span = self.span;
+        let checked = times(
+            span,
+            || {
+                black_box(library::check(black_box(program)));
+            },
+            || {
+                black_box(other::check(black_box(program)));
+            },
+        );
+        self.cell(&show.name, 0, checked, growth);
+        let stepped = &show.stepped;
+        let last = library::check(stepped).actions - 1;
+        let ours = library::step(stepped, last, &mut show.state.clone());
+        assert_eq!(ours, other::step(stepped, last, &mut show.state.clone()), "{}", show.name);
+        assert_eq!(ours.answer, 0, "{}: {ours:?}", show.name);
+        let stepped = times(
+            span,
+            || {
+                let mut state = [0; 8];
+                state.copy_from_slice(&show.state);
+                black_box(library::step(black_box(stepped), last, black_box(&mut state)));
+            },
+            || {
+                let mut state = [0; 8];
+                state.copy_from_slice(&show.state);
+                black_box(other::step(black_box(stepped), last, black_box(&mut state)));
+            },
+        );
+        self.cell(&show.name, 1, stepped, growth);
+        let k = show.count - 1;
+        assert_eq!(library::ask(program, lemmas, k), other::ask(program, lemmas, k), "{}", show.name);
+        let asked = times(
+            span,
+            || {
+                black_box(library::ask(black_box(program), black_box(lemmas), k));
+            },
+            || {
+                black_box(other::ask(black_box(program), black_box(lemmas), k));
+            },
+        );
+        self.cell(&show.name, 2, asked, growth);
+        let judged = self.judge(show);
+        self.cell(&show.name, 3, judged, growth);
+    }
+}
+
+fn main() {
+    let span: u32 = std::env::args().nth(1).and_then(|a| a.parse().ok()).unwrap_or(200);
+    let mut table = Table {
+        span: f64::from(span) / 1000.0,
+        lists: Lists { graph: vec![0; GRAPH_WORDS], path: vec![0; PATH_WORDS] },
+        before: [None; 4],
+    };
+    println!("Processor time, least average of {ROUNDS} rounds; the two sides take turns. The lent lists are not cleared between calls:");
+    println!("each call finds what the last one left. Growth: library time over that of the row before. Ask: the last lemma.");
+    println!("Step moves. Slowest and steepest: 512 nodes, 16 actions, 512 accepted lemmas, the arrangement of 12 that takes");
+    println!("the library longest, and the one with the highest ratio.");
+    Table::head();
+    for (place, nodes) in [1, 64, 128, 256, 512].into_iter().enumerate() {
+        table.row(&inputs::largest(nodes), place > 0);
+    }
+    table.row(&inputs::rig8(), false);
+
+    // Of all arrangements tried: the one that takes the library longest, and the one with the highest ratio.
+    let mut worst: [Option<(f64, Show)>; 2] = [None, None];
+    for show in inputs::arrangements() {
+        let (library, other) = table.judge(&show);
+        for (kept, measure) in worst.iter_mut().zip([library, library / other]) {
+            if kept.as_ref().map_or(true, |(most, _)| measure > *most) {
+                *kept = Some((measure, show.clone()));
+            }
+        }
+    }
+    for (what, kept) in ["slowest", "steepest"].into_iter().zip(worst) {
+        let (_, show) = kept.unwrap();
+        let judged = table.judge(&show);
+        table.cell(&format!("{what}: {}", show.name), 3, judged, false);
+    }
+
+    println!();
+    println!("Stack of one call, bytes below the caller's frame:");
+    let show = inputs::largest(512);
+    for (name, bytes) in stack::used(&show) {
+        println!("  {name:<20} {bytes:>8}");
+    }
+}
