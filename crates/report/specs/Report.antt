@@ -1,18 +1,17 @@
 -- The lines that the operator's program prints for the bytes of a show.
 --
 -- mostBytes, linesRoom — how many bytes a show may have; how many its lines have room in
--- logicLength — how many words belong to the logic: the first one of kind 15 is its last; without one, all
--- wordsIn, logicIn, lemmasIn — the words of a show's bytes, the lowest byte first; its logic; its lemmas
--- zeros       — a fresh list
--- judged      — Judge, of a logic and lemmas and two fresh lists
--- stepsIn     — the actions of the STEP words at the front of a path list
--- stepText    — each action after a space
--- safeLine, forbidLine, runOffLine, pathLine, refusedLine — the lines, each with its newline
--- answerLines — the lines of an answer of Judge and of the path list that it leaves
--- linesOf     — the lines of a show's bytes
--- shown       — what goes to a list of bytes: the lines; nothing if it has under 4,096
--- Begins      — a list begins with another
--- SafeShow    — the bytes hold the logic of a program, and it is safe
+-- logicLength  — how many words belong to the logic: the first one of kind 15 is its last; without one, all
+-- wordsIn, logicIn, lemmasIn — the words of a show's bytes, the lowest byte first; the logic and the lemmas in words
+-- zeros        — a fresh list
+-- judged       — Judge, of a logic and lemmas and two fresh lists
+-- stepsIn      — the actions of the STEP words at the front of a path list
+-- safeLine, forbidLine, endText, runOffLine, refusedLine, stepText, pathLine — the lines, each with its newline, and their parts
+-- answerLines, judgementLines, showLines — the lines of an answer and its path list; of what Judge does; of a show's words
+-- linesOf      — the lines of any bytes
+-- shown        — what goes to a list of bytes: the lines; nothing if it has under 4,096
+-- Begins       — a list begins with another
+-- SafeShow     — the bytes hold the logic of a program, and it is safe
 use mathlib.Core.Path.{_≡_}
 use mathlib.Core.Bool.{Bool, cond}
 use mathlib.Core.List.{List, [], _∷_, _++_}

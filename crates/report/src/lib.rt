@@ -143,7 +143,7 @@ fn put_words(out: &mut [u8], words: &[u32]) -> usize
     put_lists(&mut *out, &words[..n], &words[n..])
 }
 
-// The lines of a show's bytes, as many as there may be and no part of a word.
+// The lines of a show's bytes, of which there are not too many.
 fn put_show(out: &mut [u8], input: &[u8]) -> usize
     requires { ⌜ (linesRoom ≤ length (now out)) × (length (now input) ≤ mostBytes) ⌝ }
     ensures { λ r. ⌜ Put (now (out .entry)) 0 (showLines (wordsIn (now (input .entry)))) (now (out .exit)) r ⌝ }
