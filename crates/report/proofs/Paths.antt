@@ -9,7 +9,7 @@ use Rattle.grammar.specs.Programs.{Program}
 use Rattle.grammar.specs.WellFormed.{Each, WellFormed}
 use Rattle.lemmas.specs.Lemmas.{Lemma}
 use Rattle.search.specs.Search.{Origin, Root, From, Graph, Done, count, origin}
-use Rattle.search.specs.Reach.{hop, back}
+use Rattle.search.specs.Paths.{hop, back}
 use Rattle.search.proofs.Theorem.{whole}
 use Rattle.records.specs.Records.{mostNodes}
 use Rattle.abstraction.specs.Abstraction.{start, answer, graph}
