@@ -472,8 +472,38 @@ fn damage_words(dice: &Dice, words: &mut Vec<u32>) {
     }
 }
 
+/// Fills one part of a logic up to its limit, and puts a word by chance where one more would stand.
+fn overfull(dice: &Dice, input: &mut Input) {
+    let program = &mut input.program;
+    let count = |program: &[u32], k: u32| program.iter().filter(|w| kind(**w) == k).count();
+    let (wanted, most, before, filler) = match dice.below(4) {
+        0 => (VAR, MAX_VARIABLES, INIT, var_word(0, 1)),
+        1 => (ACTION, MAX_ACTIONS, SETS, make(ACTION, 0)),
+        2 => (SETS, MAX_FORBIDDEN, END, make(SETS, 0)),
+        _ => {
+            let rows = program.iter().find(|w| kind(**w) == INIT).map_or(0, |w| payload(*w) as usize);
+            let filler = lemma(START, 0, 0, 0, 0, &vec![0; rows]);
+            for _ in count(&input.lemmas, LEMMA)..MAX_LEMMAS {
+                input.lemmas.extend(&filler);
+            }
+            let any = dice.next() as u32;
+            input.lemmas.push(if dice.percent(50) { any } else { make(LEMMA, any) });
+            return;
+        }
+    };
+    let at = program.iter().position(|w| kind(*w) == before).unwrap_or(program.len() - 1);
+    let missing = most.saturating_sub(count(program, wanted));
+    let any = dice.next() as u32;
+    let last = dice.pick(&[filler, make(wanted, any), make(wanted, any & 0xFF), make(wanted, any & 0x1FF), any]);
+    program.splice(at..at, std::iter::repeat_n(filler, missing).chain([last]));
+}
+
 pub fn damaged(dice: &Dice, input: &Input) -> Input {
     let mut input = input.clone();
+    if dice.percent(4) {
+        overfull(dice, &mut input);
+        return input;
+    }
     for _ in 0..dice.pick(&[1, 1, 1, 2, 3]) {
         if dice.percent(50) {
             damage_words(dice, &mut input.program);
