@@ -16,7 +16,7 @@ use std::hint::black_box;
 
 const ROUNDS: u32 = 40;
 
-/// The processor time of this thread, in seconds: what else the machine does counts less than on a wall clock.
+/// The processor time of this thread, in seconds.
 fn now() -> f64 {
     #[repr(C)]
     struct Time {
@@ -158,7 +158,48 @@ impl Table {
     }
 }
 
+/// Makes one call so many times and nothing else, for a tool that counts instructions.
+fn once(words: &[String]) -> Option<()> {
+    let [side, call, row, count] = words else { return None };
+    let library = match side.as_str() {
+        "library" => true,
+        "other" => false,
+        _ => return None,
+    };
+    let show = match row.as_str() {
+        "rig8" => inputs::rig8(),
+        nodes => inputs::largest(nodes.parse().ok()?),
+    };
+    let (program, lemmas) = (&show.program, &show.lemmas);
+    let last = library::check(&show.stepped).actions - 1;
+    let k = show.count - 1;
+    let (mut graph, mut path) = (vec![0; GRAPH_WORDS], vec![0; PATH_WORDS]);
+    for _ in 0..count.parse().ok()? {
+        let mut state = show.state.clone();
+        match (call.as_str(), library) {
+            ("check", true) => { black_box(library::check(black_box(program))); }
+            ("check", false) => { black_box(other::check(black_box(program))); }
+            ("step", true) => { black_box(library::step(black_box(&show.stepped), last, &mut state)); }
+            ("step", false) => { black_box(other::step(black_box(&show.stepped), last, &mut state)); }
+            ("ask", true) => { black_box(library::ask(black_box(program), lemmas, k)); }
+            ("ask", false) => { black_box(other::ask(black_box(program), lemmas, k)); }
+            ("judge", true) => { black_box(library::judge(black_box(program), lemmas, &mut graph, &mut path)); }
+            ("judge", false) => { black_box(other::judge(black_box(program), lemmas, &mut graph, &mut path)); }
+            _ => return None,
+        }
+    }
+    Some(())
+}
+
 fn main() {
+    let words: Vec<String> = std::env::args().skip(1).collect();
+    if words.first().is_some_and(|w| w == "once") {
+        if once(&words[1..]).is_none() {
+            eprintln!("usage: bench once library|other check|step|ask|judge NODES|rig8 TIMES");
+            std::process::exit(2);
+        }
+        return;
+    }
     let span: u32 = std::env::args().nth(1).and_then(|a| a.parse().ok()).unwrap_or(200);
     let mut table = Table {
         span: f64::from(span) / 1000.0,
