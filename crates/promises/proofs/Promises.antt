@@ -8,6 +8,8 @@
 --   judge::judge(words, lemmas, g, p)  r, g and p at exit are those of judge words lemmas g p; Demand2Of and WalksOf (read words) lemmas;
 --                                      r ≡ Safe n e → SafeOf (read words)                                     crates/judge/src/lib.rt
 --   view::successor_of(g, n, a, k, j)  r ≡ viewed g n a k j, and so say View::new and View::successor         crates/view/src/lib.rt
+--   report::report(input, lines)       lines begins with linesOf input; if that begins with SAFE, SafeShow input  crates/report/src/lib.rt
+--   exports::bnv_check(..), ..         r is the record of numbers of the call's answer, by checkOf, ..        crates/exports/src/lib.rt
 use mathlib.Core.Path.{_≡_}
 use mathlib.Core.Bool.{true}
 use mathlib.Core.List.{List, [], _∷_}
