@@ -16,6 +16,7 @@ Step's line is MOVED, NOT ENABLED, RUNS OFF v or REFUSED r AT p, then LEFT and e
 """
 
 import os
+import pathlib
 import re
 import struct
 import sys
@@ -153,6 +154,12 @@ HOUSE = [
     SETS([], [0, 1]),                                       # 28
     END(),                                                  # 29
 ]
+
+# The worked table of the proofs has the same words.
+SHOWS = (pathlib.Path(__file__).parent.parent / "crates/worked/proofs/Shows.antt").read_text()
+for name, words in (("fade", FADE), ("house", HOUSE)):
+    text = re.search(rf"^{name} =\n((?:    .*\n)*)", SHOWS, re.M).group(1)
+    assert words == [int(word, 16) for word in re.findall(r"0x[0-9A-F]{8}", text)], name
 
 check("Fade", FADE, "COUNTS 1 0 0 2 0")
 check("House", HOUSE, "COUNTS 2 2 2 4 1")
