@@ -144,7 +144,7 @@ fn of_bytes(bytes: &[u8]) -> (Vec<u32>, Vec<u32>) {
     (words[..end].to_vec(), words[end..].to_vec())
 }
 
-/// The shows in /work/shared/shows: "the first word of kind 15 ends the logic".
+/// The shows in shows/: "the first word of kind 15 ends the logic".
 pub fn show(name: &str) -> (Vec<u32>, Vec<u32>) {
     of_bytes(match name {
         "fade" => include_bytes!("../../shows/fade.words"),
@@ -382,7 +382,7 @@ fn worked(book: &mut Book) {
     book.judge("(h) coefficient -1001", &p, &[], "REFUSED 4 AT 5");
 }
 
-/// Every show of /work/shared/shows.
+/// The shows of shows/ that came with the document.
 fn show_files(book: &mut Book) {
     for (name, line) in [
         ("fade", "SAFE nodes 1 edges 2"),
