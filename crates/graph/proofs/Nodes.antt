@@ -38,15 +38,15 @@ pub record Running (next : ℕ → ℕ → Answer) (a s : ℕ) (l₀ l : List �
 
 nothing : (l : List ℕ) (a : ℕ) → Kept l l a 0 0 0 empty
 unfolding column linksIn
-nothing l a = record { size = refl; leading = refl; width = refl; words = refl; origins = refl; edges = λ i j h b. absurd (omega arith); rest = refl }
+nothing l a = record { size = refl; leading = refl; width = refl; words = refl; apart = λ i h. absurd (omega arith); origins = refl; edges = λ i j h b. absurd (omega arith); rest = refl }
 
 rebased : {l₀ l : List ℕ} {a n x e : ℕ} {g : Graph} → Kept l₀ l a n x e g → Kept l l a n x e g
-rebased h = record { size = h .size; leading = h .leading; width = h .width; words = h .words; origins = h .origins; edges = h .edges; rest = refl }
+rebased h = record { size = h .size; leading = h .leading; width = h .width; words = h .words; apart = h .apart; origins = h .origins; edges = h .edges; rest = refl }
 
 pub first-node : (next : ℕ → ℕ → Answer) (a s : ℕ) (l l₀ : List ℕ) → l₀ ≡ rootAt l s → stride a ≤ length l → Running next a s l₀ l₀ 1 0 0
 unfolding run
 first-node next a s l l₀ root room =
-    let k = kept-stored l l a 0 0 0 empty (nothing l a) (omega (arith, zero-mul (stride a))) Root s (originWord Root) (omega (arith, zero-mul (stride a))) refl in
+    let k = kept-stored l l a 0 0 0 empty (nothing l a) (omega (arith, zero-mul (stride a))) Root s (originWord Root) (omega (arith, zero-mul (stride a))) refl refl in
     record {
       low = omega arith;
       one = omega arith;

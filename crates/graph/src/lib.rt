@@ -6,7 +6,7 @@ ghost use Rattle.words.specs.Words.{word, SETS};
 ghost use Rattle.gather.specs.Gathering.{entries, successorOf};
 ghost use Rattle.search.specs.Search.{To, From, answered, turns, explored};
 ghost use Rattle.records.specs.Records.{mostNodes, graphWords, graphList, exploredOf};
-ghost use Rattle.records.specs.Steps.{Turned, Filled};
+ghost use Rattle.records.specs.Steps.{slots, Turned, Filled};
 ghost use Rattle.graph.specs.Graph.{answerOf, nextOf, graphOf};
 use gather::Successor;
 use records::Explored;
@@ -22,6 +22,7 @@ fn node_word(set: u32) -> u32
 // The turn of action j at node k, given what is shown there for it.
 fn act(
     graph: &mut [u32],
+    hints: &mut [u16],
     nodes: usize,
     edges: usize,
     actions: usize,
@@ -29,14 +30,14 @@ fn act(
     j: usize,
     shown: u64,
 ) -> Explored
-    requires { ⌜ (graphWords ≤ length (now graph)) × (nodes ≤ mostNodes) × (actions ≤ 16) × (k < nodes) × (j < actions) × (edges ≤ k * actions + j) ⌝ }
+    requires { ⌜ (graphWords ≤ length (now graph)) × (slots ≤ length (now hints)) × (nodes ≤ mostNodes) × (actions ≤ 16) × (k < nodes) × (j < actions) × (edges ≤ k * actions + j) ⌝ }
     ensures { λ r. ⌜ Turned (λ h. answered mostNodes h (From k j) (answerOf (successorOf shown))) (now (graph .entry)) actions nodes edges (k * actions + j) r (now (graph .exit)) (k * actions + j + 1) ⌝ }
 {
     let next = gather::successor_of(shown);
     match next {
         Successor::Set(set) => {
             let w = node_word(set);
-            records::enter(&mut *graph, nodes, edges, actions, k, j, w)
+            records::enter(&mut *graph, &mut *hints, nodes, edges, actions, k, j, w)
         }
         Successor::Nothing => records::enter_none(&mut *graph, nodes, edges, actions, k, j),
     }
@@ -48,12 +49,13 @@ fn turn(
     keys: &[u32],
     n: usize,
     graph: &mut [u32],
+    hints: &mut [u16],
     nodes: usize,
     edges: usize,
     actions: usize,
     k: usize,
 ) -> Explored
-    requires { ⌜ (n ≤ length (now premises)) × (n ≤ length (now keys)) × (graphWords ≤ length (now graph)) × (nodes ≤ mostNodes) × (actions ≤ 16) × (k < nodes) × (edges ≤ k * actions) ⌝ }
+    requires { ⌜ (n ≤ length (now premises)) × (n ≤ length (now keys)) × (graphWords ≤ length (now graph)) × (slots ≤ length (now hints)) × (nodes ≤ mostNodes) × (actions ≤ 16) × (k < nodes) × (edges ≤ k * actions) ⌝ }
     ensures { λ r. ⌜ Turned (λ h. turns (nextOf (entries (now (premises .entry)) (now (keys .entry)) n)) mostNodes h k actions) (now (graph .entry)) actions nodes edges (k * actions) r (now (graph .exit)) (k * actions + actions) ⌝ }
 {
     let node = records::word_at(&graph[..], actions, k);
@@ -62,7 +64,7 @@ fn turn(
     let mut x = edges;
     let mut j: usize = 0;
     while j < actions {
-        let r = act(&mut *graph, m, x, actions, k, j, shown[j]);
+        let r = act(&mut *graph, &mut *hints, m, x, actions, k, j, shown[j]);
         let Explored::Whole(c, d) = r else {
             return Explored::Full;
         };
@@ -79,10 +81,11 @@ fn explore_from(
     keys: &[u32],
     n: usize,
     graph: &mut [u32],
+    hints: &mut [u16],
     actions: usize,
     start: u32,
 ) -> Explored
-    requires { ⌜ (n ≤ length (now premises)) × (n ≤ length (now keys)) × (graphWords ≤ length (now graph)) × (actions ≤ 16) ⌝ }
+    requires { ⌜ (n ≤ length (now premises)) × (n ≤ length (now keys)) × (graphWords ≤ length (now graph)) × (slots ≤ length (now hints)) × (actions ≤ 16) ⌝ }
     ensures { λ r. ⌜ Filled actions (explored (nextOf (entries (now (premises .entry)) (now (keys .entry)) n)) actions mostNodes (To start)) r (now (graph .entry)) (now (graph .exit)) ⌝ }
 {
     records::begin(&mut *graph, start);
@@ -90,7 +93,17 @@ fn explore_from(
     let mut edges: usize = 0;
     let mut k: usize = 0;
     while k < nodes {
-        let r = turn(premises, keys, n, &mut *graph, nodes, edges, actions, k);
+        let r = turn(
+            premises,
+            keys,
+            n,
+            &mut *graph,
+            &mut *hints,
+            nodes,
+            edges,
+            actions,
+            k,
+        );
         let Explored::Whole(c, d) = r else {
             return Explored::Full;
         };
@@ -117,7 +130,8 @@ pub fn explore(
     match next {
         Successor::Set(set) => {
             let w = node_word(set);
-            let r = explore_from(premises, keys, n, &mut *graph, actions, w);
+            let mut hints = [0u16; 4096];
+            let r = explore_from(premises, keys, n, &mut *graph, &mut hints[..], actions, w);
             if let Explored::Full = r {
                 records::clear(&mut *graph, records::ROOM);
             }

@@ -1,9 +1,10 @@
 -- Where records stand, and the lookup among them:
 --     row-within, most, one-more      records lie one after another, and within their room
 --     column-length, column-at, column-other   a column's words, and stores elsewhere
---     found                           the loop that looks a word up
+--     found, hinted                   the loop that looks a word up; a hint that is right
+--     firsts-more                     one word more that is not there yet
 --     zeros-left                      what is left of a run of zeros
-use mathlib.Core.Path.{_≡_, refl, sym, ap, _∙_}
+use mathlib.Core.Path.{_≡_, refl, sym, ap, subst, _∙_}
 use mathlib.Core.Logic.{_⊎_, ⊎-elim}
 use mathlib.Core.List.{List, [], _∷_, _++_}
 use Prim.Native.Nat.{ℕ, zero, suc, _+_, _-_, _*_, _<_, _≤_}
@@ -14,7 +15,7 @@ use lib.Seq.{drop-append-le, getD-set-other, getD-at}
 use Rattle.search.specs.Search.{seek}
 use Rattle.search.proofs.Count.{lt-or-le, seek-found, seek-bound, seek-le}
 use Rattle.records.specs.Records.{mostNodes, graphWords, stride, recordPlace}
-use Rattle.records.specs.Steps.{column}
+use Rattle.records.specs.Steps.{column, Firsts}
 
 pub row-within : (i n s : ℕ) → i < n → i * s + s ≤ n * s
 row-within i n s h = omega (arith, mul-le-mul-right s h, suc-mul i s)
@@ -65,6 +66,29 @@ found l a n w i le before end =
 -- what is not found below n is not there
 pub not-there : (w : ℕ) (l : List ℕ) (a n at : ℕ) → at ≡ seek w (column l a 0 n) → n ≤ at → seek w (column l a 0 n) ≡ n
 not-there w l a n at e out = omega (arith, seek-bound w (column l a 0 n), column-length l a 0 n)
+
+-- a hint that is right
+pub hinted : (l : List ℕ) (a n w h : ℕ) → h < n → getD l (recordPlace a h) 0 ≡ w → Firsts (column l a 0 n) → h ≡ seek w (column l a 0 n)
+hinted l a n w h lt e firsts =
+    let z = firsts h (omega (arith, column-length l a 0 n)) in
+    sym (subst (λ (u : ℕ). seek u (column l a 0 n) ≡ h) (first-at l a n h lt ∙ e) z)
+
+-- one word more that is not there yet
+pub firsts-more : (ws : List ℕ) (w : ℕ) → Firsts ws → seek w ws ≡ length ws → Firsts (ws ++ (w ∷ []))
+firsts-more ws w firsts new i h =
+    let zs = ws ++ (w ∷ []) in
+    let len : length zs ≡ length ws + 1 = length-append ws (w ∷ []) in
+    let u = getD zs i 0 in
+    let s = seek u zs in
+    let le : s ≤ i = seek-le u zs i h refl in
+    let at : getD zs s 0 ≡ u = seek-found u zs (omega (arith, le, h)) in
+    ⊎-elim
+    (λ lt.
+    let low : seek u ws ≤ s = seek-le u ws s (omega (arith, len)) (sym (List·getD-append ws (w ∷ []) 0 s (omega (arith, len))) ∙ at) in
+    ⊎-elim (λ b. let f : seek u ws ≡ i = subst (λ (v : ℕ). seek v ws ≡ i) (sym (List·getD-append ws (w ∷ []) 0 i b)) (firsts i b) in omega (arith, low, lt, f))
+    (λ b. let e : i ≡ length ws = omega (arith, len) in
+    let f : seek u ws ≡ length ws = subst (λ (v : ℕ). seek v ws ≡ length ws) (sym (getD-at ws w [] 0 i (sym e))) new in omega (arith, low, lt, f, e)) (lt-or-le i (length ws)))
+    (λ b. omega (arith, le, b)) (lt-or-le s i)
 
 -- ---- what is left of a run of zeros
 drop-zeros : (m N : ℕ) → m ≤ N → drop {A = ℕ} m (replicate N 0) ≡ replicate (N - m) 0

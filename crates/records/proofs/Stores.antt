@@ -15,8 +15,8 @@ use Rattle.search.specs.Search.{Answer, To, None, Origin, Graph, count, linksIn
 use Rattle.search.proofs.Count.{same-place, lt-or-le}
 use Rattle.records.specs.Records.{originWord, edgeWord, mostNodes, graphWords, header, stride, recordPlace, edgePlace}
 use Rattle.records.specs.declared.Explored.the-variants.{Whole, Full}
-use Rattle.records.specs.Steps.{column, Kept, Turned}
-use Rattle.records.proofs.Places.{row-within, most, rooms, one-more, column-other, not-there}
+use Rattle.records.specs.Steps.{column, Firsts, Kept, Turned}
+use Rattle.records.proofs.Places.{row-within, most, rooms, one-more, column-other, firsts-more, not-there}
 
 -- 1 for an edge that leads to a node
 abbrev pub leads : Answer → ℕ
@@ -42,6 +42,7 @@ module _ (l₀ l : List ℕ) (a n x e : ℕ) (g : Graph) (h : Kept l₀ l a n x 
         leading = links-more (g .edges) y ∙ ap (λ (m : ℕ). m + leads y) (h .leading);
         width = length-append (g .edges) (y ∷ []) ∙ omega (arith, h .width);
         words = column-other l a 0 n p v (λ i b. apart 0 i (omega arith)) ∙ h .words;
+        apart = h .apart;
         origins = column-other l a 1 n p v (λ i b. apart 1 i (omega arith)) ∙ h .origins;
         edges = λ i m hm b.
             ⊎-elim
@@ -52,9 +53,9 @@ module _ (l₀ l : List ℕ) (a n x e : ℕ) (g : Graph) (h : Kept l₀ l a n x 
       }
 
   -- the record has no edges yet
-  pub kept-stored : (o : Origin) (w v : ℕ) → recordPlace a n + stride a ≤ length l → v ≡ originWord o → Kept l₀ (set (set l (recordPlace a n) w) (recordPlace a n + 1) v) a (n + 1) x e (stored g o w)
+  pub kept-stored : (o : Origin) (w v : ℕ) → recordPlace a n + stride a ≤ length l → v ≡ originWord o → seek w (g .words) ≡ n → Kept l₀ (set (set l (recordPlace a n) w) (recordPlace a n + 1) v) a (n + 1) x e (stored g o w)
   unfolding column
-  kept-stored o w v more is =
+  kept-stored o w v more is new =
       let s = stride a in
       let p = recordPlace a n in
       let m = set l p w in
@@ -68,6 +69,7 @@ module _ (l₀ l : List ℕ) (a n x e : ℕ) (g : Graph) (h : Kept l₀ l a n x 
         leading = h .leading;
         width = h .width;
         words = rw (add-one n, kept 0 (omega arith), flat, getD-set-other m (p + 1) p v 0 (λ q. omega arith), getD-set-same l p w 0 (omega arith), h .words);
+        apart = firsts-more (g .words) w (h .apart) (new ∙ sym (h .size));
         origins = rw (add-one n, kept 1 (omega arith), getD-set-same m (p + 1) v 0 (omega (arith, length-set l p w)), h .origins, is, map-append);
         edges = λ i j hj b.
             getD-set-other m (p + 1) (edgePlace a i j) v 0 (λ q. let z = same-place s i (header + j) n 1 (omega arith) (omega arith) q .1 in omega arith)
@@ -97,29 +99,36 @@ module _ (l : List ℕ) (a n x k j : ℕ) (len : graphWords ≤ length l) (few :
   }
 
   module _ (w : ℕ) where
-    pub known : (v at : ℕ) → at ≡ seek w (column l a 0 n) → at < n → v ≡ edgeWord (To at)
+    -- the place is the word's, if no word is there twice
+    abbrev Found : ℕ → Type 0
+    Found at = Firsts (column l a 0 n) → at ≡ seek w (column l a 0 n)
+
+    placed-at : {l₀ : List ℕ} {g : Graph} {e at : ℕ} → Kept l₀ l a n x e g → Found at → at ≡ seek w (column l a 0 n)
+    placed-at h is = is (rw (h .words) (h .apart))
+
+    pub known : (v at : ℕ) → Found at → at < n → v ≡ edgeWord (To at)
         → Turned (λ g. answered mostNodes g o (To w)) l a n x (k * a + j) (Whole n (x + 1)) (set l (edgePlace a k j) v) (k * a + j + 1)
     known v at is lt ev = record {
       fair = (omega arith, few, omega arith);
       tail = drop-set-lt graphWords l (edgePlace a k j) v inside;
       held = λ l₀ g h.
-          let here : seek w (g .words) ≡ at = rw (← h .words) (sym is) in
+          let here : seek w (g .words) ≡ at = rw (← h .words) (sym (placed-at h is)) in
           let below : seek w (g .words) < count g = omega (arith, here, h .size) in
           let t = kept-linked l₀ l a n x (k * a + j) g h wide k j v (To (seek w (g .words))) hk hj refl (rw here ev) in
           rw (lt-ltb (seek w (g .words)) (count g) below) (rw (t .size, t .leading) (refl, t));
     }
 
-    pub full : (at : ℕ) → at ≡ seek w (column l a 0 n) → n ≤ at → n ≡ mostNodes → Turned (λ g. answered mostNodes g o (To w)) l a n x (k * a + j) Full l (k * a + j + 1)
+    pub full : (at : ℕ) → Found at → n ≤ at → n ≡ mostNodes → Turned (λ g. answered mostNodes g o (To w)) l a n x (k * a + j) Full l (k * a + j + 1)
     full at is out all = record {
       fair = tt;
       tail = refl;
       held = λ l₀ g h.
-          let here : seek w (g .words) ≡ n = rw (← h .words) (not-there w l a n at is out) in
+          let here : seek w (g .words) ≡ n = rw (← h .words) (not-there w l a n at (placed-at h is) out) in
           let c = h .size in
           rw (le-ltb (seek w (g .words)) (count g) (omega arith), le-ltb (count g) mostNodes (omega arith)) refl;
     }
 
-    pub fresh : (v u at : ℕ) → at ≡ seek w (column l a 0 n) → n ≤ at → n < mostNodes → u ≡ originWord o → v ≡ edgeWord (To n)
+    pub fresh : (v u at : ℕ) → Found at → n ≤ at → n < mostNodes → u ≡ originWord o → v ≡ edgeWord (To n)
         → Turned (λ g. answered mostNodes g o (To w)) l a n x (k * a + j) (Whole (n + 1) (x + 1)) (set (set (set l (recordPlace a n) w) (recordPlace a n + 1) u) (edgePlace a k j) v) (k * a + j + 1)
     fresh v u at is out some eu ev =
         let more = one-more n a some ha in
@@ -132,9 +141,9 @@ module _ (l : List ℕ) (a n x k j : ℕ) (len : graphWords ≤ length l) (few :
               drop-set-lt graphWords m (edgePlace a k j) v inside
               ∙ drop-set-lt graphWords (set l (recordPlace a n) w) (recordPlace a n + 1) u (omega arith) ∙ drop-set-lt graphWords l (recordPlace a n) w (omega arith);
           held = λ l₀ g h.
-              let here : seek w (g .words) ≡ n = rw (← h .words) (not-there w l a n at is out) in
+              let here : seek w (g .words) ≡ n = rw (← h .words) (not-there w l a n at (placed-at h is) out) in
               let c = h .size in
-              let sh = kept-stored l₀ l a n x (k * a + j) g h wide o w u (omega arith) eu in
+              let sh = kept-stored l₀ l a n x (k * a + j) g h wide o w u (omega arith) eu here in
               let t = kept-linked l₀ m a (n + 1) x (k * a + j) (stored g o w) sh (omega (arith, next-row, same)) k j v (To (seek w (g .words))) (omega arith) hj refl (rw here ev) in
               rw (le-ltb (seek w (g .words)) (count g) (omega arith), lt-ltb (count g) mostNodes (omega arith)) (rw (t .size, t .leading) (refl, t));
         }

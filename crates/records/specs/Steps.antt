@@ -1,7 +1,9 @@
 -- What the steps of a search do to the list that it writes the records in.
 --
 -- column — word c of each of the first n records
--- Kept   — the list, which was l₀, begins with the n nodes of g, has its e edges, of which x lead to a node, and behind the n records is l₀
+-- slots  — how many hints there are: guesses where a word stands
+-- Firsts — each word of a list is first found where it stands
+-- Kept   — the list, which was l₀, begins with the n nodes of g, has its e edges, of which x lead to a node, no word twice, and behind the n records is l₀
 -- Mid    — the same of a result and an answer
 -- Fair   — the nodes that an answer counts have not fallen and are at most mostNodes; the edges that it counts are at most e
 -- Turned — one step: whatever graph g the list holds before it, the list holds f g after it, and past its room is as it was
@@ -10,7 +12,7 @@ use Prim.Native.Nat.{ℕ, zero, suc, _+_, _*_, _<_, _≤_}
 use mathlib.Core.Path.{_≡_}
 use mathlib.Core.List.{List, [], _∷_, _++_, map}
 use lib.ListN.{length, drop, getD}
-use Rattle.search.specs.Search.{Graph, Result, Done, Over, count, links, edge}
+use Rattle.search.specs.Search.{Graph, Result, Done, Over, count, links, edge, seek}
 use Rattle.records.specs.Records.{originWord, edgeWord, mostNodes, graphWords, recordPlace, edgePlace, recordsOf}
 use Rattle.records.specs.declared.Explored.{Explored}
 use Rattle.records.specs.declared.Explored.the-variants.{Whole, Full}
@@ -19,11 +21,18 @@ unfoldable pub column : List ℕ → ℕ → ℕ → ℕ → List ℕ
 column l a c zero = []
 column l a c (suc n) = column l a c n ++ (getD l (recordPlace a n + c) 0 ∷ [])
 
+abbrev pub slots : ℕ
+slots = 4096
+
+abbrev pub Firsts : List ℕ → Type 0
+Firsts ws = (i : ℕ) → i < length ws → seek (getD ws i 0) ws ≡ i
+
 pub record Kept (l₀ l : List ℕ) (a n x e : ℕ) (g : Graph) : Type 0 where
   pub size : count g ≡ n
   pub leading : links g ≡ x
   pub width : length (g .edges) ≡ e
   pub words : column l a 0 n ≡ g .words
+  pub apart : Firsts (g .words)
   pub origins : column l a 1 n ≡ map originWord (g .origins)
   pub edges : (i j : ℕ) → j < a → i * a + j < e → getD l (edgePlace a i j) 0 ≡ edgeWord (edge a g i j)
   pub rest : drop (recordPlace a n) l ≡ drop (recordPlace a n) l₀

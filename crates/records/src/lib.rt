@@ -5,7 +5,7 @@ ghost use Prim.Native.Nat.{_+_, _*_, _<_, _≤_};
 ghost use lib.ListN.{length, drop, getD, set, replicate};
 ghost use Rattle.search.specs.Search.{To, None, Root, From, seek, answered};
 ghost use Rattle.records.specs.Records.{edgeWord, originWord, mostNodes, graphWords, stride, recordPlace, edgePlace};
-ghost use Rattle.records.specs.Steps.{column, Turned};
+ghost use Rattle.records.specs.Steps.{column, slots, Firsts, Turned};
 
 // What a search answers.
 pub enum Explored {
@@ -87,6 +87,27 @@ fn find(graph: &[u32], n: usize, actions: usize, w: u32) -> usize
     at
 }
 
+// Where the table of hints speaks of the word w.
+fn slot(w: u32) -> usize
+    ensures { λ r. ⌜ r < slots ⌝ }
+{
+    (w as u64 * 2654435761 / 1048576 % 4096) as usize
+}
+
+// The same, asking first where the hints say; they may say anything. Where all words differ, a word that is found is found first.
+fn find_near(graph: &[u32], hints: &[u16], n: usize, actions: usize, w: u32) -> usize
+    requires { ⌜ (graphWords ≤ length (now graph)) × (slots ≤ length (now hints)) × (n ≤ mostNodes) × (actions ≤ 16) ⌝ }
+    ensures { λ r. ⌜ (Firsts (column (now (graph .entry)) actions 0 n) → r ≡ seek w (column (now (graph .entry)) actions 0 n)) ⌝ }
+{
+    let h = (hints[slot(w)] % 512) as usize;
+    if h < n {
+        if graph[h * (HEADER + actions)] == w {
+            return h;
+        }
+    }
+    find(graph, n, actions, w)
+}
+
 // The word of node k.
 pub fn word_at(graph: &[u32], actions: usize, k: usize) -> u32
     requires { ⌜ (graphWords ≤ length (now graph)) × (actions ≤ 16) × (k < mostNodes) ⌝ }
@@ -125,6 +146,7 @@ pub fn enter_none(
 // Action j leads from node k to the word w: its edge, and the record of w if it is new.
 pub fn enter(
     graph: &mut [u32],
+    hints: &mut [u16],
     nodes: usize,
     edges: usize,
     actions: usize,
@@ -132,10 +154,13 @@ pub fn enter(
     j: usize,
     w: u32,
 ) -> Explored
-    requires { ⌜ (graphWords ≤ length (now graph)) × (nodes ≤ mostNodes) × (actions ≤ 16) × (k < nodes) × (j < actions) × (edges ≤ k * actions + j) ⌝ }
-    ensures { λ r. ⌜ Turned (λ h. answered mostNodes h (From k j) (To w)) (now (graph .entry)) actions nodes edges (k * actions + j) r (now (graph .exit)) (k * actions + j + 1) ⌝ }
+    requires { ⌜ (graphWords ≤ length (now graph)) × (slots ≤ length (now hints)) × (nodes ≤ mostNodes) × (actions ≤ 16) × (k < nodes) × (j < actions) × (edges ≤ k * actions + j) ⌝ }
+    ensures turn { λ r. ⌜ Turned (λ h. answered mostNodes h (From k j) (To w)) (now (graph .entry)) actions nodes edges (k * actions + j) r (now (graph .exit)) (k * actions + j + 1) ⌝ }
+    ensures hints { λ _. ⌜ slots ≤ length (now (hints .exit)) ⌝ }
 {
-    let at = find(&graph[..], nodes, actions, w);
+    let at = find_near(&graph[..], &hints[..], nodes, actions, w);
+    let known = slot(w);
+    hints[known] = (at % 512) as u16;
     let place = edge_place(actions, k, j);
     if at < nodes {
         graph[place] = edge_word(at);

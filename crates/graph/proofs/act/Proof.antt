@@ -15,7 +15,10 @@ enum-known-next : tie.Need-enum-known-next
 enum-known-next c = search needs
 
 node-word-requires : tie.Need-node-word-requires
-node-word-requires c κs = successor-set (c .before .before .before .before .before .args .shown) _ (sym (c .before .before .before .successor-of .ensures) ∙ c .before .next .given .1) .0
+node-word-requires c κs =
+    let p = c .before .before .before in
+    let q = p .before .before .before in
+    successor-set (q .args .shown) _ (sym (p .successor-of .ensures) ∙ c .before .next .given .1) .0
 
 enter-requires : tie.Need-enter-requires
 enter-requires c κs = search needs
@@ -29,21 +32,30 @@ enter-none-requires c κs = search needs
 same-length : tie.Need-same-length
 same-length c = search needs
 
-returns : tie.Need-returns
-returns c =
-    let w = c .before .before .before .before in
-    let s = w .before .before .before .before in
-    turned-as (From (s .before .before .args .k) (s .before .before .args .j)) (answerOf (successorOf (s .before .before .args .shown))) (To (w .node-word .result))
-    (ap answerOf (sym (s .successor-of .ensures) ∙ w .before .before .next .given .1) ∙ ap To (sym (w .node-word .ensures))) (c .before .before .enter .ensures)
-
 same-length-2 : tie.Need-same-length-2
 same-length-2 c = search needs
 
+returns : tie.Need-returns
+returns c =
+    let p = c .before .before .before .before in
+    let q = p .before .before .before in
+    let r = q .before .before in
+    let s = r .before .before in
+    let t = s .before .before .before in
+    let a = t .args in
+    turned-as (From (a .k) (a .j)) (answerOf (successorOf (a .shown))) (To (q .node-word .result))
+    (ap answerOf (sym (s .successor-of .ensures) ∙ r .next .given .1) ∙ ap To (sym (q .node-word .ensures))) (p .enter .ensures .0)
+
+same-length-3 : tie.Need-same-length-3
+same-length-3 c = search needs
+
 returns-2 : tie.Need-returns-2
 returns-2 c =
-    let q = c .before .before .before .before in
-    let s = q .before .before in
-    turned-as (From (s .before .before .args .k) (s .before .before .args .j)) (answerOf (successorOf (s .before .before .args .shown))) None (ap answerOf (sym (s .successor-of .ensures) ∙ q .enum-told .given .1)) (c .before .before .enter-none .ensures)
+    let p = c .before .before .before .before in
+    let q = p .before .before in
+    let r = q .before .before .before in
+    let a = r .args in
+    turned-as (From (a .k) (a .j)) (answerOf (successorOf (a .shown))) None (ap answerOf (sym (q .successor-of .ensures) ∙ p .enum-told .given .1)) (c .before .before .enter-none .ensures)
 
 pub act-spec : {M : Type 1} → statement M
 act-spec =
@@ -56,6 +68,7 @@ act-spec =
     enum-told
     enter-none-requires
     same-length
-    returns
     same-length-2
+    returns
+    same-length-3
     returns-2)

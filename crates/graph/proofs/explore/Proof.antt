@@ -24,8 +24,12 @@ enum-known-next c = search needs
 
 node-word-requires : tie.Need-node-word-requires
 node-word-requires c κs =
-    let s = c .before .before .before in
-    successor-set (s .before .gather .result) _ (sym (s .successor-of .ensures) ∙ c .before .next .given .1) .0
+    let p = c .before .before .before in
+    let q = p .before in
+    successor-set (q .gather .result) _ (sym (p .successor-of .ensures) ∙ c .before .next .given .1) .0
+
+slice-aggregate-explore-from : tie.Need-slice-aggregate-explore-from
+slice-aggregate-explore-from c = search needs
 
 explore-from-requires : tie.Need-explore-from-requires
 explore-from-requires c κs = search needs
@@ -47,41 +51,49 @@ same-length c = search needs
 
 returns : tie.Need-returns
 returns c =
-    let t = c .before .before .before .before .before .before in
-    let w = t .before .before .before .before in
-    let s = w .before .before .before .before in
-    let b = s .before .before .before .before in
-    let a = b .before .before .before .before .before .args in
+    let p = c .before .before .before .before in
+    let q = p .before .before .before .before .before in
+    let r = q .before .before .before in
+    let s = r .before .before in
+    let t = s .before .before in
+    let u = t .before in
+    let v = u .before .before .before in
+    let w = v .before .before .before .before .before in
+    let a = w .args in
     let es = entries (a .premises .now) (a .keys .now) (a .n) in
-    cleared-over (nextOf es) (a .actions) (a .graph .now) _ (b .clear .ensures) (startOf es) (w .node-word .result)
-    (ap answerOf (ap successorOf (sym (s .before .gather .ensures)) ∙ sym (s .successor-of .ensures) ∙ w .before .before .next .given .1) ∙ ap To (sym (w .node-word .ensures)))
-    (t .before .before .explore-from .result) (t .before .before .explore-from .last .1 .1 .1 .0) (t .before .before .explore-from .ensures) _ (c .before .before .before .before .enum-told .given .1) (c .before .before .clear2 .ensures)
+    cleared-over (nextOf es) (a .actions) (a .graph .now) _ (v .clear .ensures) (startOf es) (r .node-word .result)
+    (ap answerOf (ap successorOf (sym (u .gather .ensures)) ∙ sym (t .successor-of .ensures) ∙ s .next .given .1) ∙ ap To (sym (r .node-word .ensures)))
+    (q .explore-from .result) (q .explore-from .last .1 .1 .1 .0) (q .explore-from .ensures) _ (p .enum-told .given .1) (c .before .before .clear2 .ensures)
 
 same-length-2 : tie.Need-same-length-2
 same-length-2 c = search needs
 
 returns-2 : tie.Need-returns-2
 returns-2 c =
-    let t = c .before .before in
-    let w = t .before .before .before .before in
-    let s = w .before .before .before .before in
-    let b = s .before .before .before .before in
-    let a = b .before .before .before .before .before .args in
+    let p = c .before .before .before .before .before in
+    let q = p .before .before .before in
+    let r = q .before .before in
+    let s = r .before .before in
+    let t = s .before in
+    let u = t .before .before .before in
+    let v = u .before .before .before .before .before in
+    let a = v .args in
     let es = entries (a .premises .now) (a .keys .now) (a .n) in
-    cleared-done (nextOf es) (a .actions) (a .graph .now) _ (b .clear .ensures) (startOf es) (w .node-word .result)
-    (ap answerOf (ap successorOf (sym (s .before .gather .ensures)) ∙ sym (s .successor-of .ensures) ∙ w .before .before .next .given .1) ∙ ap To (sym (w .node-word .ensures)))
-    (t .before .before .explore-from .result) (t .before .before .explore-from .last .1 .1 .1 .0) (t .before .before .explore-from .ensures) (omega arith) _ _ (c .enum-told2 .given .1)
+    cleared-done (nextOf es) (a .actions) (a .graph .now) _ (u .clear .ensures) (startOf es) (q .node-word .result)
+    (ap answerOf (ap successorOf (sym (t .gather .ensures)) ∙ sym (s .successor-of .ensures) ∙ r .next .given .1) ∙ ap To (sym (q .node-word .ensures)))
+    (p .explore-from .result) (p .explore-from .last .1 .1 .1 .0) (p .explore-from .ensures) (omega arith) _ _ (c .enum-told2 .given .1)
 
 same-length-3 : tie.Need-same-length-3
 same-length-3 c = search needs
 
 returns-3 : tie.Need-returns-3
 returns-3 c =
-    let s = c .before .before in
-    let b = s .before .before .before .before in
-    let a = b .before .before .before .before .before .args in
+    let p = c .before .before .before in
+    let q = p .before .before .before in
+    let r = q .before .before .before .before .before in
+    let a = r .args in
     let es = entries (a .premises .now) (a .keys .now) (a .n) in
-    cleared-none (nextOf es) (a .actions) (a .graph .now) _ (b .clear .ensures) (startOf es) (ap answerOf (ap successorOf (sym (s .before .gather .ensures)) ∙ sym (s .successor-of .ensures) ∙ c .enum-told3 .given .1))
+    cleared-none (nextOf es) (a .actions) (a .graph .now) _ (q .clear .ensures) (startOf es) (ap answerOf (ap successorOf (sym (p .gather .ensures)) ∙ sym (c .before .before .successor-of .ensures) ∙ c .enum-told3 .given .1))
 
 pub explore-spec : {M : Type 1} → statement M
 explore-spec =
@@ -92,6 +104,7 @@ explore-spec =
     successor-of-requires
     enum-known-next
     node-word-requires
+    slice-aggregate-explore-from
     explore-from-requires
     enum-told
     clear-requires-2

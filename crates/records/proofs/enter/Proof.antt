@@ -7,8 +7,20 @@ use borrow.Author.Needs.{needs}
 use Rattle.records.proofs.enter.Statement.{statement}
 use Rattle.records.proofs.enter.Tie as tie
 
-find-requires : tie.Need-find-requires
-find-requires c κs = search needs
+find-near-requires : tie.Need-find-near-requires
+find-near-requires c κs = search needs
+
+slot-requires : tie.Need-slot-requires
+slot-requires c κs = search needs
+
+cast-hints : tie.Need-cast-hints
+cast-hints c = search needs
+
+mul-hints : tie.Need-mul-hints
+mul-hints c = search needs
+
+slice-write-hints : tie.Need-slice-write-hints
+slice-write-hints c = search needs
 
 edge-place-requires : tie.Need-edge-place-requires
 edge-place-requires c κs = search needs
@@ -22,27 +34,35 @@ mul-graph c = search needs
 slice-write-graph : tie.Need-slice-write-graph
 slice-write-graph c = search needs
 
-add-t15 : tie.Need-add-t15
-add-t15 c = search needs
+add-t23 : tie.Need-add-t23
+add-t23 c = search needs
 
 same-length : tie.Need-same-length
 same-length c = search needs
 
-returns : tie.Need-returns
-returns c =
-    let p = c .before .before in
-    let a = p .before .before .before .before .args in
-    rw (p .edge-place .ensures .0)
-    (known (a .graph .now) (a .actions) (a .nodes) (a .edges) (a .k) (a .j) (omega arith) (omega arith) (omega arith) (omega arith) (omega arith) (omega arith) (From (a .k) (a .j)) (a .w) (c .edge-word .result) (p .before .find .result) (p .before .find .ensures) (c .before .if1 .taken) (c .edge-word .ensures))
-
 same-length-2 : tie.Need-same-length-2
 same-length-2 c = search needs
 
+returns : tie.Need-returns
+returns c =
+    let p = c .before .before .before .before in
+    let q = p .before .before .before .before .before in
+    let a = q .args in
+    rw (c .before .before .edge-place .ensures .0)
+    (known (a .graph .now) (a .actions) (a .nodes) (a .edges) (a .k) (a .j) (omega arith) (omega arith) (omega arith) (omega arith) (omega arith) (omega arith) (From (a .k) (a .j)) (a .w) (c .edge-word .result) (p .find-near .result) (p .find-near .ensures) (c .before .if1 .taken) (c .edge-word .ensures), simp length-set (omega arith))
+
+same-length-3 : tie.Need-same-length-3
+same-length-3 c = search needs
+
+same-length-4 : tie.Need-same-length-4
+same-length-4 c = search needs
+
 returns-2 : tie.Need-returns-2
 returns-2 c =
-    let p = c .before .before in
-    let a = p .before .before .before .before .args in
-    full (a .graph .now) (a .actions) (a .nodes) (a .edges) (a .k) (a .j) (omega arith) (omega arith) (omega arith) (omega arith) (omega arith) (omega arith) (From (a .k) (a .j)) (a .w) (p .before .find .result) (p .before .find .ensures) (c .before .if1 .left) (c .if2 .taken)
+    let p = c .before .before .before .before in
+    let q = p .before .before .before .before .before in
+    let a = q .args in
+    (full (a .graph .now) (a .actions) (a .nodes) (a .edges) (a .k) (a .j) (omega arith) (omega arith) (omega arith) (omega arith) (omega arith) (omega arith) (From (a .k) (a .j)) (a .w) (p .find-near .result) (p .find-near .ensures) (c .before .if1 .left) (c .if2 .taken), simp length-set (omega arith))
 
 record-place-requires : tie.Need-record-place-requires
 record-place-requires c κs = search needs
@@ -74,36 +94,48 @@ mul-graph-4 c = search needs
 slice-write-graph-4 : tie.Need-slice-write-graph-4
 slice-write-graph-4 c = simp length-set (omega arith)
 
+add-t19 : tie.Need-add-t19
+add-t19 c = search needs
+
 add-t17 : tie.Need-add-t17
 add-t17 c = search needs
 
-add-t20 : tie.Need-add-t20
-add-t20 c = search needs
+same-length-5 : tie.Need-same-length-5
+same-length-5 c = search needs
 
-same-length-3 : tie.Need-same-length-3
-same-length-3 c = search needs
+same-length-6 : tie.Need-same-length-6
+same-length-6 c = search needs
 
 returns-3 : tie.Need-returns-3
 returns-3 c =
-    let q = c .before .before in
-    let p = q .before .before .before in
-    let a = p .before .before .before .before .args in
-    rw (p .edge-place .ensures .0, q .record-place .ensures .0)
-    (fresh (a .graph .now) (a .actions) (a .nodes) (a .edges) (a .k) (a .j) (omega arith) (omega arith) (omega arith) (omega arith) (omega arith) (omega arith) (From (a .k) (a .j)) (a .w) (c .edge-word2 .result) (c .before .origin-word .result) (p .before .find .result) (p .before .find .ensures) (q .before .before .if1 .left) (omega (arith, q .before .if2 .left)) (c .before .origin-word .ensures) (c .edge-word2 .ensures))
+    let p = c .before .before .before in
+    let q = p .before in
+    let r = q .before in
+    let s = r .before .before in
+    let t = s .before .before .before .before .before in
+    let a = t .args in
+    rw (r .edge-place .ensures .0, c .before .before .record-place .ensures .0)
+    (fresh (a .graph .now) (a .actions) (a .nodes) (a .edges) (a .k) (a .j) (omega arith) (omega arith) (omega arith) (omega arith) (omega arith) (omega arith) (From (a .k) (a .j)) (a .w) (c .edge-word2 .result) (c .before .origin-word .result) (s .find-near .result) (s .find-near .ensures) (q .if1 .left) (omega (arith, p .if2 .left)) (c .before .origin-word .ensures) (c .edge-word2 .ensures), simp length-set (omega arith))
 
 pub enter-spec : {M : Type 1} → statement M
 enter-spec =
     tie.close
     (tie.spec
-    find-requires
+    find-near-requires
+    slot-requires
+    cast-hints
+    mul-hints
+    slice-write-hints
     edge-place-requires
     edge-word-requires
     mul-graph
     slice-write-graph
-    add-t15
+    add-t23
     same-length
-    returns
     same-length-2
+    returns
+    same-length-3
+    same-length-4
     returns-2
     record-place-requires
     mul-graph-2
@@ -115,7 +147,8 @@ enter-spec =
     edge-word-requires-2
     mul-graph-4
     slice-write-graph-4
+    add-t19
     add-t17
-    add-t20
-    same-length-3
+    same-length-5
+    same-length-6
     returns-3)
