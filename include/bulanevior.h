@@ -13,7 +13,7 @@
  *  - A pointer with a length above zero points to that many elements, aligned to 4 bytes, that may be read and, where the list is
  *    not const, written. Until the call returns nobody else writes them, nor reads those of a list that is not const.
  *  - The lists of one call do not overlap.
- *  - 64 KiB of stack beside the lent lists. No call recurses, so its stack does not grow with its input; the bound is measured
+ *  - 96 KiB of stack beside the lent lists. No call recurses, so its stack does not grow with its input; the bound is measured
  *    (tests/calls.c) and not proved.
  *
  * What the caller gets, whatever stands in the lists and whatever the numbers are:

@@ -16,7 +16,7 @@
     } while (0)
 
 #define LOGIC 16
-#define MOST_STACK 65536
+#define MOST_STACK 98304
 
 static const uint32_t fade[] = {
     0x100003E8, 0x40000000, 0x50000000, 0x60000011, 0x2FFFFFFB, 0x30000001, 0x70000000, 0x2FFFFFFB,

@@ -1,7 +1,7 @@
 //! A safe wrapper over Bulanevior's static library: slices in, enums out, nothing allocated.
 //!
 //! A slice keeps what include/bulanevior.h asks of a list, so every function here is safe to call with anything.
-//! 64 KiB of stack beside the lent lists are enough.
+//! 96 KiB of stack beside the lent lists are enough.
 
 #[cfg(not(target_pointer_width = "64"))]
 compile_error!("64-bit numbers only");

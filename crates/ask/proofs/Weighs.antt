@@ -91,8 +91,8 @@ module _ (ws : List ℕ) {g : Image} (held : Held ws g) (ls : List ℕ) (at : �
   preds-ready = subst ReadRows (sym preds-are) (guards-read (length (p .ranges)) (p .predicates) (ok .predicates .each))
 
   -- of the numbers that were read and what the source offers
-  module _ {w s n goal i : ℕ} {x : Source} (ew : w ≡ getD ls at 0) (es : s ≡ getD ls (at + 1) 0) (en : n ≡ bits 27 20 w) (eg : goal ≡ bits 19 16 w) (ei : i ≡ bits 7 0 w)
-      (ex : x ≡ sourceOf p n) where
+  module _ {w s goal i : ℕ} {x : Source} (ew : w ≡ getD ls at 0) (es : s ≡ getD ls (at + 1) 0) (eg : goal ≡ bits 19 16 w) (ei : i ≡ bits 7 0 w)
+      (ex : x ≡ sourceOf p (bits 27 20 (getD ls at 0))) where
     goal-is : goal ≡ l .goal
     goal-is = eg ∙ ap (bits 19 16) ew ∙ fields p ok ls at h .1
 
@@ -103,7 +103,7 @@ module _ (ws : List ℕ) {g : Image} (held : Held ws g) (ls : List ℕ) (at : �
     set-is = ap payload es ∙ fields p ok ls at h .3
 
     offers : x ≡ sourceOf p (l .source)
-    offers = ex ∙ ap (sourceOf p) (en ∙ ap (bits 27 20) ew ∙ fields p ok ls at h .0)
+    offers = ex ∙ ap (sourceOf p) (fields p ok ls at h .0)
 
     pub index-ready : (goal ≤ 2 → i < 14) × (2 < goal → i < 8)
     index-ready = rw (goal-is, index-is) (index-few p ok (l .source) (l .goal) (l .index) (good p ok ls at h .goal))

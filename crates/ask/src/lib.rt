@@ -4,6 +4,7 @@ ghost use mathlib.Core.Bool.{not};
 ghost use Prim.Native.Nat.{ℕ, _<_, _≤_};
 ghost use lib.Dec.{eqb};
 ghost use lib.ListN.{getD};
+ghost use Rattle.words.specs.Words.{bits};
 ghost use Rattle.rows.specs.Rows.{exact};
 ghost use Rattle.rows.specs.declared.Exact.the-variants.{Value};
 ghost use Rattle.ask.specs.declared.Asked.the-variants.{Accepted};
@@ -12,9 +13,10 @@ ghost use Rattle.programs.specs.Calls.{read};
 ghost use Rattle.sums.specs.Sums.{afterwards};
 ghost use Rattle.sums.specs.Fits.{Single, Goal};
 ghost use Rattle.lemmas.specs.Lemmas.{largestOf};
-ghost use Rattle.lemmas.specs.Sources.{theProgram, Held};
+ghost use Rattle.lemmas.specs.Sources.{theProgram, Held, sourceOf};
 ghost use Rattle.ask.specs.Calls.{weighed, ask, TrueIn};
 ghost use Rattle.ask.specs.Weighing.{theLemma, IsLemma, endRow, goalRow, refuted};
+use lemmas::Source;
 use programs::Image;
 use programs::Status;
 use rows::Exact;
@@ -64,15 +66,14 @@ fn refuter(goal: usize, row: Row, new: [Row; 8]) -> Row
     }
 }
 
-// The largest value, over the ranges, of the sum of the lemma that begins at an index.
-pub fn weigh(words: &[u32], image: Image, lemmas: &[u32], at: usize) -> Exact
-    requires { ⌜ Held (now words) image × IsLemma (theProgram (now words)) (now lemmas) at ⌝ }
+// The largest value, over the ranges, of the sum of the lemma that begins at an index, by what its source offers.
+pub fn weigh(words: &[u32], image: Image, source: Source, lemmas: &[u32], at: usize) -> Exact
+    requires { ⌜ Held (now words) image × IsLemma (theProgram (now words)) (now lemmas) at × (source ≡ sourceOf (theProgram (now words)) (bits 27 20 (getD (now lemmas) at 0))) ⌝ }
     ensures { λ r. ⌜ r ≡ exact (largestOf (theProgram (now (words .entry))) (theLemma (theProgram (now (words .entry))) (now (lemmas .entry)) at)) ⌝ }
 {
     let w = reader::word_at(lemmas, at);
     let s = reader::word_at(lemmas, at + 1);
     let goal = words::goal(w);
-    let source = lemmas::source_of(words, image, words::source(w));
     let ranges = image.ranges;
     let preds = image.pred;
     let new = source.new;
@@ -93,6 +94,16 @@ pub fn weigh(words: &[u32], image: Image, lemmas: &[u32], at: usize) -> Exact
         at + 2,
     );
     rows::largest(sum, ranges)
+}
+
+// The same of one lemma, whose source is read first.
+fn weigh_one(words: &[u32], image: Image, lemmas: &[u32], at: usize) -> Exact
+    requires { ⌜ Held (now words) image × IsLemma (theProgram (now words)) (now lemmas) at ⌝ }
+    ensures { λ r. ⌜ r ≡ exact (largestOf (theProgram (now (words .entry))) (theLemma (theProgram (now (words .entry))) (now (lemmas .entry)) at)) ⌝ }
+{
+    let w = reader::word_at(lemmas, at);
+    let source = lemmas::source_of(words, image, words::source(w));
+    weigh(words, image, source, lemmas, at)
 }
 
 // What Ask answers.
@@ -143,5 +154,5 @@ pub fn ask(words: &[u32], lemmas: &[u32], k: usize) -> Asked
         return Asked::Refused(Refusal::Absent(k));
     }
     let at = list.begin_at[k];
-    answer(k, weigh(words, image, lemmas, at))
+    answer(k, weigh_one(words, image, lemmas, at))
 }

@@ -22,8 +22,8 @@ use Rattle.programs.proofs.Places.{noneAction}
 use Rattle.runs.specs.Runs.{has, rowIf, literalRows, actionOf}
 use Rattle.lemmas.specs.Lemmas.{Lemma, START, negatedGoal, sourceRows, rowsOf}
 use Rattle.lemmas.specs.LemmaGrammar.{setsVariable, goalAllowed, headAllowed, premisesAllowed, lemmaOf}
-use Rattle.lemmas.specs.Sources.{theProgram, Held, sourceOf, goalBy, headBy, premisesBy, oneIf, literalCount, rowCount}
-use Rattle.lemmas.specs.declared.Source.{Source}
+use Rattle.lemmas.specs.Sources.{theProgram, Held, shapeOf, goalBy, headBy, premisesBy, oneIf, literalCount, rowCount}
+use Rattle.lemmas.specs.declared.Shape.{Shape}
 use Rattle.lemmas.proofs.LemmaLaws.{action-rising}
 use Rattle.lemmas.proofs.SourceLaws.{counts}
 
@@ -162,19 +162,16 @@ module _ (ws : List ℕ) {g : Image} (h : Held ws g) where
   abbrev p : Program
   p = theProgram ws
 
-  -- of a LEMMA word w and a SETS word s, as they were read, and what the source of w offers
-  module _ (w s : ℕ) {w′ s′ n g′ : ℕ} {x : Source} (ew : w′ ≡ w) (es : s′ ≡ s) (en : n ≡ bits 27 20 w′) (eg : g′ ≡ bits 19 16 w′) (ex : x ≡ sourceOf p n) where
-    offers : x ≡ sourceOf p (bits 27 20 w)
-    offers = ex ∙ ap (sourceOf p) (en ∙ ap (bits 27 20) ew)
-
+  -- of a LEMMA word w and a SETS word s, as they were read, and the shape of the source of w
+  module _ (w s : ℕ) {w′ s′ n g′ : ℕ} {x : Shape} (ew : w′ ≡ w) (es : s′ ≡ s) (en : n ≡ bits 27 20 w′) (eg : g′ ≡ bits 19 16 w′) (ex : x ≡ shapeOf p (bits 27 20 w)) where
     pub head-known : headBy (g .actions) (g .preds) (x .set) w′ ≡ headAllowed p w
-    head-known = rw (ew, offers, counts ws h 0 .0, counts ws h 0 .1, goal-by p (h .accepted .good) (bits 27 20 w) (bits 19 16 w) (bits 7 0 w)) refl
+    head-known = rw (ew, ex, counts ws h 0 .0, counts ws h 0 .1, goal-by p (h .accepted .good) (bits 27 20 w) (bits 19 16 w) (bits 7 0 w)) refl
 
     pub premises-known : premisesBy (g .preds) n (payload s′) ≡ premisesAllowed p (bits 27 20 w) (payload s)
     premises-known = rw (en, ew, es, counts ws h 0 .1) refl
 
     pub rows-known : rowCount g′ (g .preds) (payload s′) (x .count) ≡ length (rowsOf p (lemmaOf w s []))
-    rows-known = rw (offers, eg, ew, es, counts ws h 0 .1) (rows-counted p (lemmaOf w s []))
+    rows-known = rw (ex, eg, ew, es, counts ws h 0 .1) (rows-counted p (lemmaOf w s []))
 
     pub source-few : (g .preds ≤ 14) × (x .count ≤ 14)
-    source-few = rw offers (omega (arith, counts ws h 0 .1, counts ws h 0 .4), omega (arith, source-rows-good p (h .accepted .good) (bits 27 20 w) .few))
+    source-few = rw ex (omega (arith, counts ws h 0 .1, counts ws h 0 .4), omega (arith, source-rows-good p (h .accepted .good) (bits 27 20 w) .few))

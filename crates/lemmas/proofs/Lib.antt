@@ -1,5 +1,6 @@
 pub mod LemmaLaws
 pub mod SourceLaws
+pub mod Slots
 pub mod HeadLaws
 pub mod ListLaws
 pub mod Sound

@@ -21,10 +21,14 @@ use Rattle.programs.proofs.Places.{noneAction, action-k, stored-at, length-plac
 use Rattle.runs.specs.Runs.{actionOf}
 use Rattle.lemmas.specs.Lemmas.{START}
 use Rattle.lemmas.specs.declared.Source.{Source}
-use Rattle.lemmas.specs.Sources.{theProgram, Held, sourceOf}
+use Rattle.lemmas.specs.declared.Shape.{Shape}
+use Rattle.lemmas.specs.Sources.{theProgram, Held, sourceOf, shapeOf}
 
 none-at : (p : Program) (k : ℕ) → length (p .actions) ≤ k → actionOf p k ≡ noneAction
 none-at p k l = List·getD-eq-default (p .actions) noneAction l
+
+abbrev pub shape : Source → Shape
+shape x = record { count = x .count; set = x .set }
 
 abbrev made : ℕ → List Row → List Row → List Bool → Source
 made n rs new set = record { count = n; rows = rs; new = new; set = set }
@@ -32,6 +36,13 @@ made n rs new set = record { count = n; rows = rs; new = new; set = set }
 offered : (p : Program) (k : ℕ) (b : Bool) (a : Action) → eqb k START ≡ b → actionOf p k ≡ a
     → sourceOf p k ≡ made (length (cond b (p .start) (a .guards))) (sets zeroRows 0 (cond b (p .start) (a .guards))) (assigned keepRows (a .sets)) (marked noMarks (a .sets))
 offered p k b a e f = rw (e, f) refl
+
+-- what is no source offers nothing
+pub sources-alike : (p : Program) → length (p .actions) ≤ 16 → (k : ℕ) → 16 ≤ k → (k ≡ START → ⊥) → sourceOf p k ≡ sourceOf p 254
+sources-alike p few k l n = offered p k false noneAction (ne-eqb k START n) (none-at p k (omega arith)) ∙ sym (offered p 254 false noneAction refl (none-at p 254 (omega arith)))
+
+pub shapes-alike : (p : Program) → length (p .actions) ≤ 16 → (k : ℕ) → 16 ≤ k → (k ≡ START → ⊥) → shapeOf p k ≡ shapeOf p 254
+shapes-alike p few k l n = ap shape (sources-alike p few k l n)
 
 module _ (ws : List ℕ) {g : Image} (h : Held ws g) (k : ℕ) where
   abbrev p : Program

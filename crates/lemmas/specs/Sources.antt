@@ -2,7 +2,8 @@
 --
 -- theProgram             — the program that a list of words is; an empty one where it is none
 -- Held                   — a list is a program, and this is its image
--- sourceOf               — what a source offers
+-- sourceOf, shapeOf      — what a source offers; how many rows that are and which variables it sets
+-- slotOf, Slotted        — the place of a source in a table of 18; the table has this of every source
 -- goalBy, headBy, premisesBy — what a lemma's first two words may say, by the program's counts and what the source sets
 -- literalCount, rowCount — how many literals a set has; how many rows a lemma has
 -- lemmaRead              — a lemma and where reading goes on
@@ -33,6 +34,7 @@ use Rattle.runs.specs.Runs.{has, actionOf}
 use Rattle.lemmas.specs.Lemmas.{Lemma, START, sourceRows, newRows}
 use Rattle.lemmas.specs.LemmaGrammar.{encodeLemma}
 use Rattle.lemmas.specs.declared.Source.{Source}
+use Rattle.lemmas.specs.declared.Shape.{Shape}
 use Rattle.lemmas.specs.declared.LemmaRead.{LemmaRead}
 use Rattle.lemmas.specs.declared.Begins.{Begins}
 use Rattle.lemmas.specs.declared.Listed.{Listed}
@@ -50,6 +52,15 @@ pub record Held (ws : List ℕ) (image : Image) : Type 0 where
 
 abbrev pub sourceOf : Program → ℕ → Source
 sourceOf p s = record { count = length (sourceRows p s); rows = sets zeroRows 0 (sourceRows p s); new = newRows p s; set = marked noMarks (actionOf p s .sets) }
+
+abbrev pub shapeOf : Program → ℕ → Shape
+shapeOf p s = record { count = sourceOf p s .count; set = sourceOf p s .set }
+
+abbrev pub slotOf : ℕ → ℕ
+slotOf s = cond (ltb s 16) s (cond (eqb s START) 16 17)
+
+abbrev pub Slotted : {A : Type 0} → (ℕ → A) → List A → Type 0
+Slotted {A} f t = (d : A) (s : ℕ) → getD t (slotOf s) d ≡ f s
 
 abbrev pub goalBy : ℕ → List Bool → ℕ → ℕ → Bool
 goalBy preds set zero i = eqb i 0

@@ -2,7 +2,7 @@
 ghost use mathlib.Core.Path.{_≡_};
 ghost use Prim.Native.Nat.{_+_, _<_, _≤_, _^_};
 ghost use lib.ListN.{length, drop, getD, replicate};
-ghost use Rattle.words.specs.Words.{payload, LEMMA};
+ghost use Rattle.words.specs.Words.{bits, payload, LEMMA};
 ghost use Rattle.grammar.specs.Reading.{times, many, refused};
 ghost use mathlib.Core.Bool.{false, _||_};
 ghost use lib.Dec.{eqb, ltb};
@@ -10,7 +10,7 @@ ghost use Rattle.lemmas.specs.Lemmas.{START};
 ghost use Rattle.reader.specs.Results.{nextOf};
 ghost use Rattle.runs.specs.Runs.{has};
 ghost use Rattle.lemmas.specs.LemmaGrammar.{multiplier, lemma, asLemma, readLemmas};
-ghost use Rattle.lemmas.specs.Sources.{theProgram, Held, sourceOf, goalBy, headBy, premisesBy, literalCount, rowCount, oneIf, lemmaRead, noBegins, beginsFrom, listed};
+ghost use Rattle.lemmas.specs.Sources.{theProgram, Held, sourceOf, shapeOf, slotOf, Slotted, goalBy, headBy, premisesBy, literalCount, rowCount, oneIf, lemmaRead, noBegins, beginsFrom, listed};
 use programs::Image;
 use programs::Status;
 use reader::Next;
@@ -71,6 +71,62 @@ pub fn source_of(words: &[u32], image: Image, number: usize) -> Source
         new,
         set,
     }
+}
+
+// The place of a source in a table of them: an action's number, 16 for the start, 17 for any other.
+pub fn slot(number: usize) -> usize
+    ensures { λ r. ⌜ (r ≡ slotOf number) × (r < 18) ⌝ }
+{
+    if number < 16 {
+        return number;
+    }
+    if number == 255 { 16 } else { 17 }
+}
+
+// Every source once.
+pub fn sources(words: &[u32], image: Image) -> [Source; 18]
+    requires { ⌜ Held (now words) image ⌝ }
+    ensures { λ r. ⌜ Slotted (sourceOf (theProgram (now (words .entry)))) r ⌝ }
+{
+    let mut t = [source_of(words, image, 254); 18];
+    t[16] = source_of(words, image, 255);
+    let mut a: usize = 0;
+    while a < 16 {
+        t[a] = source_of(words, image, a);
+        a += 1;
+    }
+    t
+}
+
+// What the reading of a lemma asks of its source: how many rows it offers, and which variables it sets.
+pub struct Shape {
+    pub count: usize,
+    pub set: [bool; 8],
+}
+
+fn shape_of(words: &[u32], image: Image, number: usize) -> Shape
+    requires { ⌜ Held (now words) image ⌝ }
+    ensures { λ r. ⌜ r ≡ shapeOf (theProgram (now (words .entry))) number ⌝ }
+{
+    let source = source_of(words, image, number);
+    let count = source.count;
+    let set = source.set;
+    Shape { count, set }
+}
+
+// Every shape once.
+fn shapes(words: &[u32], image: Image) -> [Shape; 18]
+    requires { ⌜ Held (now words) image ⌝ }
+    ensures { λ r. ⌜ Slotted (shapeOf (theProgram (now (words .entry)))) r ⌝ }
+{
+    let mut t = [shape_of(words, image, 254); 18];
+    t[16] = shape_of(words, image, 255);
+    let mut a: usize = 0;
+    while a < 16 {
+        t[a] = shape_of(words, image, a);
+        a += 1;
+    }
+    t
 }
 
 fn is_set(set: [bool; 8], v: usize) -> bool
@@ -205,18 +261,24 @@ fn no_lemma(why: Refusal) -> LemmaRead
     }
 }
 
-// The lemma at an index. `room` says whether the list may have one more.
-pub fn read_lemma(words: &[u32], image: Image, lemmas: &[u32], at: usize, room: bool) -> LemmaRead
-    requires { ⌜ Held (now words) image × (at ≤ length (now lemmas)) ⌝ }
+// The lemma at an index, by the shape of its source. `room` says whether the list may have one more.
+fn read_lemma(
+    words: &[u32],
+    image: Image,
+    shape: Shape,
+    lemmas: &[u32],
+    at: usize,
+    room: bool,
+) -> LemmaRead
+    requires { ⌜ Held (now words) image × (at ≤ length (now lemmas)) × (shape ≡ shapeOf (theProgram (now words)) (bits 27 20 (getD (now lemmas) at 0))) ⌝ }
     ensures { λ r. ⌜ r ≡ lemmaRead (lemma (theProgram (now (words .entry))) room (drop at (now (lemmas .entry))) at) ⌝ }
 {
     let w = reader::word_at(lemmas, at);
     let number = words::source(w);
     let goal = words::goal(w);
-    let source = source_of(words, image, number);
     let actions = image.actions;
     let preds = image.preds;
-    let set = source.set;
+    let set = shape.set;
     let allowed = head_allowed(w, actions, preds, set);
     let next = reader::read_word(lemmas, at, at, Kind::LEMMA, true, room, allowed);
     if let Next::Refused(why) = next {
@@ -229,7 +291,7 @@ pub fn read_lemma(words: &[u32], image: Image, lemmas: &[u32], at: usize, room: 
     if let Next::Refused(why) = next {
         return no_lemma(why);
     }
-    let count = source.count;
+    let count = shape.count;
     let after = read_mults(lemmas, at + 2, count_rows(goal, preds, literals, count));
     match after {
         Next::Refused(why) => no_lemma(why),
@@ -265,11 +327,14 @@ fn read_lemmas(words: &[u32], image: Image, lemmas: &[u32]) -> Begins
     requires { ⌜ Held (now words) image ⌝ }
     ensures { λ r. ⌜ r ≡ beginsFrom (replicate 512 0) 0 0 (many LEMMA (lemma (theProgram (now (words .entry)))) 512 (drop 0 (now (lemmas .entry))) 0) ⌝ }
 {
+    let t = shapes(words, image);
     let mut begin_at = [0usize; 512];
     let mut i: usize = 0;
     let mut k: usize = 0;
     while reader::begins(lemmas, i, Kind::LEMMA) {
-        let read = read_lemma(words, image, lemmas, i, k < 512);
+        let o = slot(words::source(reader::word_at(lemmas, i)));
+        let shape = t[o];
+        let read = read_lemma(words, image, shape, lemmas, i, k < 512);
         let next = read.next;
         match next {
             Next::Refused(why) => {

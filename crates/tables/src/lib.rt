@@ -43,13 +43,17 @@ pub fn tabulate(
     requires { ⌜ Held (now words) image × Begun (theProgram (now words)) (now lemmas) begins count (theLemmas (theProgram (now words)) (now lemmas)) ⌝ }
     ensures { λ r. ⌜ Tabled (theProgram (now (words .entry))) (theLemmas (theProgram (now (words .entry))) (now (lemmas .entry))) r ⌝ }
 {
+    let t = lemmas::sources(words, image);
     let mut premises = [0u32; 512];
     let mut keys = [0u32; 512];
     let mut n: usize = 0;
     let mut k: usize = 0;
     while k < count {
         let at = begins[k];
-        let largest = ask::weigh(words, image, lemmas, at);
+        let w = reader::word_at(lemmas, at);
+        let o = lemmas::slot(words::source(w));
+        let source = t[o];
+        let largest = ask::weigh(words, image, source, lemmas, at);
         let Exact::Value(z) = largest else {
             return Tables {
                 premises,
@@ -59,7 +63,7 @@ pub fn tabulate(
             };
         };
         premises[n] = reader::word_at(lemmas, at + 1) % 268435456;
-        keys[n] = key_at(reader::word_at(lemmas, at));
+        keys[n] = key_at(w);
         n += one_if_below(z);
         k += 1;
     }

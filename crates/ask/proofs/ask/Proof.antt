@@ -48,14 +48,14 @@ mul-at c = let k = known (c .before .before .before .before .before) in let w = 
 element-copy-out-at : tie.Need-element-copy-out-at
 element-copy-out-at c = let k = known (c .before .before .before .before .before) in place-few (c .before .before .before .before .before .before .before .before .before .before .args .words .now) (theProgram (c .before .before .before .before .before .before .before .before .before .before .args .words .now)) (k .is) (k .held .accepted .good) (c .before .before .before .before .before .before .before .before .before .before .args .lemmas .now) (c .before .before .before .list .ensures) (c .before .before .before .before .before .before .before .before .before .before .args .k) (listed-is (c .before)) (c .if1 .left)
 
-weigh-requires : tie.Need-weigh-requires
-weigh-requires c κs = let k = known (c .before .before .before .before .before .before) in (k .held, is-lemma (c .before .before .before .before .before .before .before .before .before .before .before .args .words .now) (theProgram (c .before .before .before .before .before .before .before .before .before .before .before .args .words .now)) (k .is) (k .held .accepted .good) (c .before .before .before .before .before .before .before .before .before .before .before .args .lemmas .now) (c .before .before .before .before .list .ensures) (c .before .before .before .before .before .before .before .before .before .before .before .args .k) (listed-is (c .before .before)) (c .before .if1 .left))
+weigh-one-requires : tie.Need-weigh-one-requires
+weigh-one-requires c κs = let k = known (c .before .before .before .before .before .before) in (k .held, is-lemma (c .before .before .before .before .before .before .before .before .before .before .before .args .words .now) (theProgram (c .before .before .before .before .before .before .before .before .before .before .before .args .words .now)) (k .is) (k .held .accepted .good) (c .before .before .before .before .before .before .before .before .before .before .before .args .lemmas .now) (c .before .before .before .before .list .ensures) (c .before .before .before .before .before .before .before .before .before .before .before .args .k) (listed-is (c .before .before)) (c .before .if1 .left))
 
 answer-requires : tie.Need-answer-requires
 answer-requires c κs = search needs
 
 returns-4 : tie.Need-returns-4
-returns-4 c = let k = known (c .before .before .before .before .before .before .before .before) in answered (c .before .before .before .before .before .before .before .before .before .before .before .before .before .args .words .now) (theProgram (c .before .before .before .before .before .before .before .before .before .before .before .before .before .args .words .now)) (k .is) (k .held .accepted .good) (c .before .before .before .before .before .before .before .before .before .before .before .before .before .args .lemmas .now) (c .before .before .before .before .before .before .list .ensures) (c .before .before .before .before .before .before .before .before .before .before .before .before .before .args .k) (listed-is (c .before .before .before .before)) (c .before .before .before .if1 .left) (c .answer .ensures ∙ ap (weighed (c .before .before .before .before .before .before .before .before .before .before .before .before .before .args .k)) (c .before .weigh .ensures))
+returns-4 c = let k = known (c .before .before .before .before .before .before .before .before) in answered (c .before .before .before .before .before .before .before .before .before .before .before .before .before .args .words .now) (theProgram (c .before .before .before .before .before .before .before .before .before .before .before .before .before .args .words .now)) (k .is) (k .held .accepted .good) (c .before .before .before .before .before .before .before .before .before .before .before .before .before .args .lemmas .now) (c .before .before .before .before .before .before .list .ensures) (c .before .before .before .before .before .before .before .before .before .before .before .before .before .args .k) (listed-is (c .before .before .before .before)) (c .before .before .before .if1 .left) (c .answer .ensures ∙ ap (weighed (c .before .before .before .before .before .before .before .before .before .before .before .before .before .args .k)) (c .before .weigh-one .ensures))
 
 pub ask-spec : {M : Type 1} → statement M
 ask-spec =
@@ -72,6 +72,6 @@ ask-spec =
     returns-3
     mul-at
     element-copy-out-at
-    weigh-requires
+    weigh-one-requires
     answer-requires
     returns-4)

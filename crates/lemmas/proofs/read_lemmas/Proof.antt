@@ -6,29 +6,56 @@ use lib.ListN.{set, replicate}
 use Rattle.words.specs.Words.{LEMMA}
 use Rattle.programs.proofs.ManyLaws.{Loop, begun}
 use Rattle.lemmas.specs.LemmaGrammar.{lemma}
-use Rattle.lemmas.specs.Sources.{theProgram, beginsFrom}
+use Rattle.lemmas.specs.Sources.{theProgram, shapeOf, beginsFrom}
+use Rattle.lemmas.proofs.Slots.{slot-read}
 use Rattle.lemmas.proofs.ListLaws.{lemmas-ended, lemmas-stopped, lemma-turned}
 use Rattle.lemmas.proofs.read_lemmas.Statement.{statement}
 use Rattle.lemmas.proofs.read_lemmas.Tie as tie
 
 abbrev Inv-loop : tie.InvT-loop
-Inv-loop words image lemmas begin-at₀ i₀ k₀ begin-at i k = Loop LEMMA (lemma (theProgram words)) 512 beginsFrom lemmas 0 (replicate 512 0) begin-at i k
+Inv-loop words image lemmas t begin-at₀ i₀ k₀ begin-at i k = Loop LEMMA (lemma (theProgram words)) 512 beginsFrom lemmas 0 (replicate 512 0) begin-at i k
 
 abbrev μ-loop : tie.MeasureT-loop
-μ-loop words image lemmas begin-at₀ i₀ k₀ begin-at i k = 512 - k
+μ-loop words image lemmas t begin-at₀ i₀ k₀ begin-at i k = 512 - k
 
-turn-of : (c : tie.After-next2 Inv-loop μ-loop) → let s = c .before .before .before .before .before .before .before .before .args in let l = c .before .before .before .before .before .loop in
-    (l .k < 512) × Loop LEMMA (lemma (theProgram (s .words .now))) 512 beginsFrom (s .lemmas .now) 0 (replicate 512 0) (set (l .begin-at) (l .k) (l .i)) (c .next2 .given .0 .0) (l .k + 1)
-turn-of c = lemma-turned (theProgram (c .before .before .before .before .before .before .before .before .args .words .now)) (c .before .before .before .before .before .before .before .before .pre .accepted .good) (c .before .before .before .before .before .before .before .before .args .lemmas .now) (c .before .before .before .before .before .loop .inv) (sym (c .before .before .before .before .begins .ensures) ∙ c .before .before .before .if1 .taken) (c .before .before .read-lemma .ensures) (c .next2 .given .1)
+turn-of : (c : tie.After-next2 Inv-loop μ-loop) → let l = c .before .before .before .before .before .before .before .before .before in let s = l .before .before .before .before .args in
+    (l .loop .k < 512) × Loop LEMMA (lemma (theProgram (s .words .now))) 512 beginsFrom (s .lemmas .now) 0 (replicate 512 0) (set (l .loop .begin-at) (l .loop .k) (l .loop .i)) (c .next2 .given .0 .0) (l .loop .k + 1)
+turn-of c =
+    let q = c .before .before .before .before .before .before .before in
+    let l = q .before .before in
+    let f = l .before .before .before .before in
+    lemma-turned (theProgram (f .args .words .now)) (f .pre .accepted .good) (f .args .lemmas .now) (l .loop .inv) (sym (q .before .begins .ensures) ∙ q .if1 .taken) (c .before .before .read-lemma .ensures) (c .next2 .given .1)
+
+shapes-requires : tie.Need-shapes-requires Inv-loop μ-loop
+shapes-requires c κs = search needs
 
 loop-holds : tie.Need-loop-holds Inv-loop μ-loop
-loop-holds c = begun LEMMA (lemma _) 512 beginsFrom (c .before .before .args .lemmas .now) 0 (replicate 512 0) (omega arith)
+loop-holds c = begun LEMMA (lemma _) 512 beginsFrom (c .before .before .before .args .lemmas .now) 0 (replicate 512 0) (omega arith)
 
 begins-requires : tie.Need-begins-requires Inv-loop μ-loop
 begins-requires c κs = search needs
 
+word-at-requires : tie.Need-word-at-requires Inv-loop μ-loop
+word-at-requires c κs = search needs
+
+source-requires : tie.Need-source-requires Inv-loop μ-loop
+source-requires c κs = search needs
+
+slot-requires : tie.Need-slot-requires Inv-loop μ-loop
+slot-requires c κs = search needs
+
+mul-shape : tie.Need-mul-shape Inv-loop μ-loop
+mul-shape c = omega (arith, c .slot .ensures .1)
+
+array-copy-out-shape : tie.Need-array-copy-out-shape Inv-loop μ-loop
+array-copy-out-shape c = c .slot .ensures .1
+
 read-lemma-requires : tie.Need-read-lemma-requires Inv-loop μ-loop
-read-lemma-requires c κs = (c .before .before .before .before .before .pre, c .before .before .loop .inv .here)
+read-lemma-requires c κs =
+    let s = c .before in
+    let l = s .before .before .before .before .before in
+    let f = l .before .before .before .before in
+    (f .pre, l .loop .inv .here, slot-read (shapeOf (theProgram (f .args .words .now))) (l .before .shapes .result) _ (l .before .shapes .ensures) (s .slot .ensures .0) (s .before .source .ensures) (s .before .before .word-at .ensures))
 
 enum-known-next : tie.Need-enum-known-next Inv-loop μ-loop
 enum-known-next c = search needs
@@ -37,7 +64,11 @@ no-begins-requires : tie.Need-no-begins-requires Inv-loop μ-loop
 no-begins-requires c κs = search needs
 
 returns : tie.Need-returns Inv-loop μ-loop
-returns c = c .no-begins .ensures ∙ lemmas-stopped (theProgram (c .before .before .before .before .before .before .before .before .before .before .args .words .now)) (c .before .before .before .before .before .before .before .before .before .before .pre .accepted .good) (c .before .before .before .before .before .before .before .before .before .before .args .lemmas .now) (c .before .before .before .before .before .before .before .loop .inv) (sym (c .before .before .before .before .before .before .begins .ensures) ∙ c .before .before .before .before .before .if1 .taken) (c .before .before .before .before .read-lemma .ensures) (c .before .before .next .given .1)
+returns c =
+    let q = c .before .before .before .before .before .before .before .before .before in
+    let l = q .before .before in
+    let f = l .before .before .before .before in
+    c .no-begins .ensures ∙ lemmas-stopped (theProgram (f .args .words .now)) (f .pre .accepted .good) (f .args .lemmas .now) (l .loop .inv) (sym (q .before .begins .ensures) ∙ q .if1 .taken) (c .before .before .before .before .read-lemma .ensures) (c .before .before .next .given .1)
 
 enum-known-next-2 : tie.Need-enum-known-next-2 Inv-loop μ-loop
 enum-known-next-2 c = search needs
@@ -58,7 +89,10 @@ loop-again : tie.Need-loop-again Inv-loop μ-loop
 loop-again c = turn-of (c .before) .1
 
 returns-2 : tie.Need-returns-2 Inv-loop μ-loop
-returns-2 c = lemmas-ended (theProgram (c .before .before .before .before .before .args .words .now)) (c .before .before .before .before .before .pre .accepted .good) (c .before .before .before .before .before .args .lemmas .now) (c .before .before .loop .inv) (sym (c .before .begins .ensures) ∙ c .if1 .left)
+returns-2 c =
+    let l = c .before .before in
+    let f = l .before .before .before .before in
+    lemmas-ended (theProgram (f .args .words .now)) (f .pre .accepted .good) (f .args .lemmas .now) (l .loop .inv) (sym (c .before .begins .ensures) ∙ c .if1 .left)
 
 pub read-lemmas-spec : {M : Type 1} → statement M
 read-lemmas-spec =
@@ -66,8 +100,14 @@ read-lemmas-spec =
     (tie.spec
     Inv-loop
     μ-loop
+    shapes-requires
     loop-holds
     begins-requires
+    word-at-requires
+    source-requires
+    slot-requires
+    mul-shape
+    array-copy-out-shape
     read-lemma-requires
     enum-known-next
     no-begins-requires
