@@ -3,13 +3,11 @@
 
 mod inputs;
 #[allow(dead_code)]
-#[path = "../../compare/src/library.rs"]
-mod library;
-#[allow(dead_code)]
 #[path = "../../compare/src/other.rs"]
 mod other;
 mod stack;
 
+use bulanevior::raw as library;
 use independent::words::{GRAPH_WORDS, PATH_WORDS};
 use inputs::Show;
 use std::hint::black_box;

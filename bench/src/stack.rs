@@ -2,7 +2,8 @@
 //! lowest word that lost its paint says how far it went.
 
 use crate::inputs::Show;
-use crate::{library, other};
+use crate::other;
+use bulanevior::raw as library;
 use independent::words::{GRAPH_WORDS, PATH_WORDS};
 use std::hint::black_box;
 

@@ -3,8 +3,8 @@
 use crate::counts::*;
 use crate::dice::Dice;
 use crate::generate::Input;
-use crate::library::{self, BnvJudge};
 use crate::other;
+use bulanevior::raw::{self as library, BnvJudge};
 use independent::words::{EDGE, GRAPH_WORDS, PATH_WORDS};
 
 /// Words before and behind each lent list that no call may touch.

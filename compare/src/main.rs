@@ -5,7 +5,6 @@ mod calls;
 mod counts;
 mod dice;
 mod generate;
-mod library;
 mod other;
 mod prover;
 mod states;
@@ -14,7 +13,7 @@ mod sweep;
 use calls::{hexadecimal, Compare, Difference};
 use dice::Dice;
 use generate::Input;
-use library::BnvJudge;
+use bulanevior::raw::BnvJudge;
 use std::process::ExitCode;
 use std::time::Instant;
 
@@ -27,18 +26,9 @@ fn walk(compare: &mut Compare, input: &Input, judged: &BnvJudge, most: usize) ->
     let Ok(program) = independent::program::read(&input.program) else { return Ok(()) };
     let Some(states) = states::count(&program, most) else { return Ok(()) };
     let Ok(lemmas) = independent::lemma::read(&program, &input.lemmas) else { return Ok(()) };
-    if states * lemmas.len() > 200_000 {
-        return Ok(());
-    }
     let mut accepted = Vec::new();
     for (k, lemma) in lemmas.iter().enumerate() {
-        // Long lists are read whole for each question: ask the library about some of those.
-        let answer = if lemmas.len() <= 64 || k % 16 == 0 {
-            compare.ask(input, k)? == 0
-        } else {
-            independent::lemma::weigh(&program, lemma) == Some(true)
-        };
-        if answer {
+        if compare.ask(input, k)? == 0 {
             accepted.push(lemma);
         }
     }
@@ -86,8 +76,21 @@ fn run(compare: &mut Compare, inputs: u64, seed: u64) -> Result<u64, Difference>
         }
         logics += 1;
     }
-    println!("{done} inputs from {logics} logics, {} calls of each side", compare.calls);
     Ok(done)
+}
+
+/// What a part of the run did.
+struct Part {
+    compare: Compare,
+    inputs: u64,
+    seconds: f64,
+}
+
+fn timed(seed: u64, part: impl FnOnce(&mut Compare) -> Result<u64, Difference>) -> Result<Part, Difference> {
+    let began = Instant::now();
+    let mut compare = Compare::new(seed);
+    let inputs = part(&mut compare)?;
+    Ok(Part { compare, inputs, seconds: began.elapsed().as_secs_f64() })
 }
 
 fn main() -> ExitCode {
@@ -103,31 +106,26 @@ fn main() -> ExitCode {
     }
     let [inputs, seed] = numbers;
     println!("seed {seed}");
-    let mut began = Instant::now();
-    let mut part = |name: &str| {
-        println!("{name}: {:.1} s", began.elapsed().as_secs_f64());
-        began = Instant::now();
-    };
-
-    let mut compare = Compare::new(seed);
-    if let Err(fault) = run(&mut compare, inputs, seed) {
-        println!("{fault}");
-        return ExitCode::from(1);
-    }
+    // The sweeps have counts of their own, which do not count towards what must occur often.
+    let (made, swept) = std::thread::scope(|scope| {
+        let sweeps = scope.spawn(|| timed(seed, sweep::sweep));
+        (timed(seed, |compare| run(compare, inputs, seed)), sweeps.join().expect("the sweeps panicked"))
+    });
+    let mut seldom = Vec::new();
     let least = if inputs < 100_000 { inputs / 1000 } else { 100 };
-    let seldom = compare.counts.print(least);
-    part("inputs");
-
-    // The sweeps do not count towards what must occur often.
-    let mut compare = Compare::new(seed);
-    match sweep::sweep(&mut compare) {
-        Ok(inputs) => println!("{inputs} inputs of the sweeps, {} calls of each side", compare.calls),
-        Err(fault) => {
-            println!("{fault}");
-            return ExitCode::from(1);
+    for (part, name) in [(made, "inputs"), (swept, "sweeps")] {
+        let Part { compare, inputs, seconds } = match part {
+            Ok(part) => part,
+            Err(fault) => {
+                println!("{fault}");
+                return ExitCode::from(1);
+            }
+        };
+        if name == "inputs" {
+            seldom = compare.counts.print(least);
         }
+        println!("{name}: {inputs}, {} calls of each side, {seconds:.1} s", compare.calls);
     }
-    part("sweeps");
     if seldom.is_empty() {
         println!("no difference");
         ExitCode::SUCCESS

@@ -1,6 +1,6 @@
 //! The independent code behind the same six calls. Fields that an answer does not use are 0.
 
-use crate::library::*;
+use bulanevior::raw::{BnvAsk, BnvCheck, BnvJudge, BnvPart, BnvStep, BnvSuccessor};
 use independent::{Asked, Judged, Stepped};
 
 pub fn check(words: &[u32]) -> BnvCheck {

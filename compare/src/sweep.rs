@@ -6,11 +6,11 @@ use crate::generate::Input;
 use independent::shows::*;
 use independent::words::*;
 
-/// All counts at their limits. Rows have eight terms, or none.
-pub fn full(terms: bool) -> Text {
+/// All counts at their limits, and eight terms in each row.
+pub fn full() -> Text {
     let of = |i: i32, low: bool| {
         let all: Vec<(u32, i32)> = (0..8).map(|v| (v, (v as i32 + i) % 7 - 3)).map(|(v, c)| (v, if c == 0 { 5 } else { c })).collect();
-        row(if low { -500_000 } else { i }, if terms { &all } else { &[] })
+        row(if low { -500_000 } else { i }, &all)
     };
     Text {
         vars: (0..8).map(|v| (-v - 1, 100 * v + 3)).collect(),
@@ -134,11 +134,8 @@ impl Sweep<'_> {
 
     fn lemmas(&mut self, input: &Input, at: usize) -> Result<(), Difference> {
         self.inputs += 1;
-        let answer = self.compare.ask(input, at / 25)?;
-        // Judge weighs all lemmas of a good list: only some of those.
-        if self.inputs % 8 == 0 && (answer == 2 || self.inputs % 64 == 0) {
-            self.compare.judge(input, GRAPH_WORDS, PATH_WORDS, 0)?;
-        }
+        self.compare.ask(input, at / 25)?;
+        self.compare.judge(input, GRAPH_WORDS, PATH_WORDS, 0)?;
         Ok(())
     }
 }
@@ -146,8 +143,7 @@ impl Sweep<'_> {
 /// All sweeps; hands back how many inputs they had.
 pub fn sweep(compare: &mut Compare) -> Result<u64, Difference> {
     let mut sweep = Sweep { compare, inputs: 0 };
-    let text = full(true);
-    let slim = full(false);
+    let text = full();
     let all = full_lemmas(&text);
     let short = all[..25 * 2].to_vec();
 
@@ -171,8 +167,8 @@ pub fn sweep(compare: &mut Compare) -> Result<u64, Difference> {
         }
     }
 
-    // Lemma lists: the same, with rows of no terms so that the program is short.
-    for (program, lemmas) in [(slim.words(), full_lemmas(&slim)), (demo().words(), demo_lemmas())] {
+    // Lemma lists: the same.
+    for (program, lemmas) in [(text.words(), all.clone()), (demo().words(), demo_lemmas())] {
         let mut input = Input { program, lemmas: lemmas.clone() };
         for at in 0..lemmas.len() {
             let word = lemmas[at];
@@ -188,7 +184,6 @@ pub fn sweep(compare: &mut Compare) -> Result<u64, Difference> {
         for word in 0..16 {
             input.lemmas.push(make(word, 0xFFF_FFFF));
             sweep.lemmas(&input, 0)?;
-            sweep.compare.judge(&input, GRAPH_WORDS, PATH_WORDS, 0)?;
             input.lemmas.pop();
         }
     }

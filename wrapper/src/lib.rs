@@ -6,7 +6,7 @@
 #[cfg(not(target_pointer_width = "64"))]
 compile_error!("64-bit numbers only");
 
-mod raw;
+pub mod raw;
 
 /// The words that `judge` needs in a graph list, and the only ones that it ever writes there.
 pub const GRAPH_WORDS: usize = 9216;
@@ -119,7 +119,7 @@ pub struct Counts {
 
 /// Is the list a program, and what are its counts?
 pub fn check(words: &[u32]) -> Result<Counts, Refusal> {
-    let c = unsafe { raw::bnv_check(words.as_ptr(), words.len()) };
+    let c = raw::check(words);
     if c.refusal != 0 {
         return Err(Refusal::of(c.refusal, c.value));
     }
@@ -134,7 +134,7 @@ pub fn check(words: &[u32]) -> Result<Counts, Refusal> {
 
 /// The words of action k, as a part of the list; empty where the list is no program or has no such action.
 pub fn action_part(words: &[u32], k: usize) -> &[u32] {
-    let p = unsafe { raw::bnv_action_part(words.as_ptr(), words.len(), k) };
+    let p = raw::action_part(words, k);
     &words[p.start..p.start + p.length]
 }
 
@@ -150,15 +150,7 @@ pub enum Step {
 
 /// Action k, tried on a state. Only `Moved` writes.
 pub fn step(words: &[u32], k: usize, state: &mut [i32]) -> Result<Step, Refusal> {
-    let s = unsafe {
-        raw::bnv_step(
-            words.as_ptr(),
-            words.len(),
-            k,
-            state.as_mut_ptr(),
-            state.len(),
-        )
-    };
+    let s = raw::step(words, k, state);
     match s.answer {
         0 => Ok(Step::Moved),
         1 => Ok(Step::NotEnabled),
@@ -177,15 +169,7 @@ pub enum Ask {
 
 /// Is lemma k of the list accepted?
 pub fn ask(words: &[u32], lemmas: &[u32], k: usize) -> Result<Ask, Refusal> {
-    let a = unsafe {
-        raw::bnv_ask(
-            words.as_ptr(),
-            words.len(),
-            lemmas.as_ptr(),
-            lemmas.len(),
-            k,
-        )
-    };
+    let a = raw::ask(words, lemmas, k);
     match a.answer {
         0 => Ok(Ask::Accepted),
         1 => Ok(Ask::NotAccepted),
@@ -232,18 +216,7 @@ pub fn judge(
     graph: &mut [u32],
     path: &mut [u32],
 ) -> Result<Judgement, Refusal> {
-    let j = unsafe {
-        raw::bnv_judge(
-            words.as_ptr(),
-            words.len(),
-            lemmas.as_ptr(),
-            lemmas.len(),
-            graph.as_mut_ptr(),
-            graph.len(),
-            path.as_mut_ptr(),
-            path.len(),
-        )
-    };
+    let j = raw::judge(words, lemmas, graph, path);
     let verdict = match j.verdict {
         0 => Verdict::Safe,
         1 => Verdict::MayForbid {
@@ -302,17 +275,7 @@ impl<'a> View<'a> {
 
     /// The successor for a node and an action, if it has one.
     pub fn successor(&self, node: usize, action: usize) -> Result<Option<usize>, Refusal> {
-        let graph = self.graph;
-        let s = unsafe {
-            raw::bnv_successor(
-                graph.as_ptr(),
-                graph.len(),
-                self.nodes,
-                self.actions,
-                node,
-                action,
-            )
-        };
+        let s = raw::successor(self.graph, self.nodes, self.actions, node, action);
         match s.answer {
             0 => Ok(Some(s.node)),
             1 => Ok(None),

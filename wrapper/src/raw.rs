@@ -1,7 +1,10 @@
-//! The functions of include/bulanevior.h, with the same names, numbers and layouts.
+//! The functions of include/bulanevior.h over slices, with the same names, numbers and layouts of their answers. Fields
+//! that an answer does not use are 0.
 
 #[repr(C)]
+#[derive(Clone, Copy, Debug, PartialEq, Eq, Default)]
 pub struct BnvCheck {
+    /// 0 if none.
     pub refusal: u32,
     pub value: usize,
     pub variables: usize,
@@ -12,13 +15,16 @@ pub struct BnvCheck {
 }
 
 #[repr(C)]
+#[derive(Clone, Copy, Debug, PartialEq, Eq, Default)]
 pub struct BnvPart {
     pub start: usize,
     pub length: usize,
 }
 
 #[repr(C)]
+#[derive(Clone, Copy, Debug, PartialEq, Eq, Default)]
 pub struct BnvStep {
+    /// 0 moved, 1 not enabled, 2 runs off, 3 refused.
     pub answer: u32,
     pub variable: usize,
     pub refusal: u32,
@@ -26,18 +32,24 @@ pub struct BnvStep {
 }
 
 #[repr(C)]
+#[derive(Clone, Copy, Debug, PartialEq, Eq, Default)]
 pub struct BnvAsk {
+    /// 0 accepted, 1 not accepted, 2 refused.
     pub answer: u32,
     pub refusal: u32,
     pub value: usize,
 }
 
 #[repr(C)]
+#[derive(Clone, Copy, Debug, PartialEq, Eq, Default)]
 pub struct BnvJudge {
+    /// 0 safe, 1 may forbid, 2 may run off, 3 refused.
     pub verdict: u32,
     pub node: usize,
+    /// The combination, or the action.
     pub place: usize,
     pub variable: usize,
+    /// 1 for the high end.
     pub high: u32,
     pub nodes: usize,
     pub edges: usize,
@@ -46,19 +58,23 @@ pub struct BnvJudge {
 }
 
 #[repr(C)]
+#[derive(Clone, Copy, Debug, PartialEq, Eq, Default)]
 pub struct BnvSuccessor {
+    /// 0 node, 1 none, 2 refused.
     pub answer: u32,
     pub node: usize,
     pub refusal: u32,
     pub value: usize,
 }
 
+// A slice crosses as two arguments, pointer and length. Declared as `&[u32]` it would cross as one value of two words,
+// which lies elsewhere once the registers are used up, as they are in bnv_judge.
 extern "C" {
-    pub fn bnv_check(words: *const u32, words_length: usize) -> BnvCheck;
+    fn bnv_check(words: *const u32, words_length: usize) -> BnvCheck;
 
-    pub fn bnv_action_part(words: *const u32, words_length: usize, k: usize) -> BnvPart;
+    fn bnv_action_part(words: *const u32, words_length: usize, k: usize) -> BnvPart;
 
-    pub fn bnv_step(
+    fn bnv_step(
         words: *const u32,
         words_length: usize,
         k: usize,
@@ -66,7 +82,7 @@ extern "C" {
         state_length: usize,
     ) -> BnvStep;
 
-    pub fn bnv_ask(
+    fn bnv_ask(
         words: *const u32,
         words_length: usize,
         lemmas: *const u32,
@@ -74,7 +90,7 @@ extern "C" {
         k: usize,
     ) -> BnvAsk;
 
-    pub fn bnv_judge(
+    fn bnv_judge(
         words: *const u32,
         words_length: usize,
         lemmas: *const u32,
@@ -85,7 +101,7 @@ extern "C" {
         path_length: usize,
     ) -> BnvJudge;
 
-    pub fn bnv_successor(
+    fn bnv_successor(
         graph: *const u32,
         graph_length: usize,
         nodes: usize,
@@ -93,4 +109,41 @@ extern "C" {
         node: usize,
         action: usize,
     ) -> BnvSuccessor;
+}
+
+// Each call asks nothing of its lists and numbers but what a slice keeps, and keeps nothing itself: so each is safe.
+
+pub fn check(words: &[u32]) -> BnvCheck {
+    unsafe { bnv_check(words.as_ptr(), words.len()) }
+}
+
+pub fn action_part(words: &[u32], k: usize) -> BnvPart {
+    unsafe { bnv_action_part(words.as_ptr(), words.len(), k) }
+}
+
+pub fn step(words: &[u32], k: usize, state: &mut [i32]) -> BnvStep {
+    let (s, n) = (state.as_mut_ptr(), state.len());
+    unsafe { bnv_step(words.as_ptr(), words.len(), k, s, n) }
+}
+
+pub fn ask(words: &[u32], lemmas: &[u32], k: usize) -> BnvAsk {
+    let (l, n) = (lemmas.as_ptr(), lemmas.len());
+    unsafe { bnv_ask(words.as_ptr(), words.len(), l, n, k) }
+}
+
+pub fn judge(words: &[u32], lemmas: &[u32], graph: &mut [u32], path: &mut [u32]) -> BnvJudge {
+    let (w, l) = (words.as_ptr(), lemmas.as_ptr());
+    let (g, gn) = (graph.as_mut_ptr(), graph.len());
+    let (p, pn) = (path.as_mut_ptr(), path.len());
+    unsafe { bnv_judge(w, words.len(), l, lemmas.len(), g, gn, p, pn) }
+}
+
+pub fn successor(
+    graph: &[u32],
+    nodes: usize,
+    actions: usize,
+    node: usize,
+    action: usize,
+) -> BnvSuccessor {
+    unsafe { bnv_successor(graph.as_ptr(), graph.len(), nodes, actions, node, action) }
 }
