@@ -27,6 +27,17 @@ pub struct Source {
     pub set: [bool; 8],
 }
 
+fn offer(count: usize, rows: [Row; 14], new: [Row; 8], set: [bool; 8]) -> Source
+    ensures { λ r. ⌜ r ≡ record { count = count; rows = rows; new = new; set = set } ⌝ }
+{
+    Source {
+        count,
+        rows,
+        new,
+        set,
+    }
+}
+
 // The source of this number: an action, or 255 for the start. Another one offers nothing.
 pub fn source_of(words: &[u32], image: Image, number: usize) -> Source
     requires { ⌜ Held (now words) image ⌝ }
@@ -35,42 +46,22 @@ pub fn source_of(words: &[u32], image: Image, number: usize) -> Source
     let new = actions::KEEP;
     let set = [false; 8];
     if number == 255 {
-        let count = image.starts;
         let rows = image.start;
-        return Source {
-            count,
-            rows,
-            new,
-            set,
-        };
+        return offer(image.starts, rows, new, set);
     }
-    let actions = image.actions;
-    if actions <= number {
+    if image.actions <= number {
         let blank = Row {
             coef: [0i64; 8],
             constant: 0,
         };
-        let rows = [blank; 14];
-        return Source {
-            count: 0,
-            rows,
-            new,
-            set,
-        };
+        return offer(0, [blank; 14], new, set);
     }
     let at = image.action_at[number];
-    let vars = image.vars;
-    let read = actions::read_action(words, at, vars, true);
-    let count = read.guards;
+    let read = actions::read_action(words, at, image.vars, true);
     let rows = read.guard;
     let new = read.rows;
     let set = read.set;
-    Source {
-        count,
-        rows,
-        new,
-        set,
-    }
+    offer(read.guards, rows, new, set)
 }
 
 // The place of a source in a table of them: an action's number, 16 for the start, 17 for any other.
@@ -276,24 +267,21 @@ fn read_lemma(
     let w = reader::word_at(lemmas, at);
     let number = words::source(w);
     let goal = words::goal(w);
-    let actions = image.actions;
-    let preds = image.preds;
     let set = shape.set;
-    let allowed = head_allowed(w, actions, preds, set);
+    let allowed = head_allowed(w, image.actions, image.preds, set);
     let next = reader::read_word(lemmas, at, at, Kind::LEMMA, true, room, allowed);
     if let Next::Refused(why) = next {
         return no_lemma(why);
     }
     let s = reader::word_at(lemmas, at + 1);
     let literals = s % 268435456;
-    let fine = premises_allowed(literals, preds, number);
+    let fine = premises_allowed(literals, image.preds, number);
     let next = reader::read_word(lemmas, at + 1, at + 1, Kind::SETS, true, true, fine);
     if let Next::Refused(why) = next {
         return no_lemma(why);
     }
-    let count = shape.count;
-    let after = read_mults(lemmas, at + 2, count_rows(goal, preds, literals, count));
-    match after {
+    let n = count_rows(goal, image.preds, literals, shape.count);
+    match read_mults(lemmas, at + 2, n) {
         Next::Refused(why) => no_lemma(why),
         Next::At(j) => LemmaRead {
             source: number,
@@ -332,8 +320,7 @@ fn read_lemmas(words: &[u32], image: Image, lemmas: &[u32]) -> Begins
     let mut i: usize = 0;
     let mut k: usize = 0;
     while reader::begins(lemmas, i, Kind::LEMMA) {
-        let o = slot(words::source(reader::word_at(lemmas, i)));
-        let shape = t[o];
+        let shape = t[slot(words::source(reader::word_at(lemmas, i)))];
         let read = read_lemma(words, image, shape, lemmas, i, k < 512);
         let next = read.next;
         match next {

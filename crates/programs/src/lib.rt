@@ -9,6 +9,7 @@ ghost use Rattle.grammar.specs.Grammar.{rangeOf, range, ranges, rows, action, c
 ghost use Rattle.reader.specs.Results.{nextOf};
 ghost use Rattle.programs.specs.Calls.{read, check, actionPart, PartOf, partPlace};
 ghost use Rattle.programs.specs.Images.{noRanges, rangesFrom, zeroRanges, countedRead, noActions, actionsFrom, noForbidden, forbiddenFrom, loaded, placeOf, rest, restLoaded};
+ghost use Rattle.programs.specs.declared.Status.the-variants.{Ready};
 use reader::Next;
 use rows::Range;
 use rows::Row;
@@ -332,19 +333,26 @@ pub fn load(words: &[u32]) -> Loaded
     load_rest(words, place(next), ranges, start, preds)
 }
 
+fn ready(image: Image) -> Loaded
+    ensures { λ r. ⌜ r ≡ record { status = Ready; image = image } ⌝ }
+{
+    Loaded {
+        status: Status::Ready,
+        image,
+    }
+}
+
 // The actions, the forbidden combinations and the end, after the ranges, the start rows and the predicates.
 fn load_rest(words: &[u32], at: usize, ranges: Ranges, start: Counted, preds: Counted) -> Loaded
     requires { ⌜ (ranges .count ≤ 8) × (preds .count ≤ 14) × (at ≤ length (now words)) ⌝ }
     ensures { λ r. ⌜ r ≡ restLoaded ranges start preds (rest (ranges .count) (preds .count) (drop at (now (words .entry))) at) at ⌝ }
 {
-    let vars = ranges.count;
-    let actions = read_actions(words, at, vars);
+    let actions = read_actions(words, at, ranges.count);
     let next = actions.next;
     if let Next::Refused(why) = next {
         return no_image(why);
     }
-    let known = preds.count;
-    let forbidden = read_forbidden(words, place(next), known);
+    let forbidden = read_forbidden(words, place(next), preds.count);
     let next = forbidden.next;
     if let Next::Refused(why) = next {
         return no_image(why);
@@ -359,21 +367,18 @@ fn load_rest(words: &[u32], at: usize, ranges: Ranges, start: Counted, preds: Co
     let begin_at = actions.begin_at;
     let literals = forbidden.literals;
     let image = Image {
-        vars,
+        vars: ranges.count,
         ranges: ranges_of,
         starts: start.count,
         start: start_rows,
-        preds: known,
+        preds: preds.count,
         pred: pred_rows,
         actions: actions.count,
         action_at: begin_at,
         forbidden: forbidden.count,
         literals,
     };
-    Loaded {
-        status: Status::Ready,
-        image,
-    }
+    ready(image)
 }
 
 // Check: the five counts of the program that the words are, or why they are none.

@@ -51,10 +51,8 @@ pub fn tabulate(
     while k < count {
         let at = begins[k];
         let w = reader::word_at(lemmas, at);
-        let o = lemmas::slot(words::source(w));
-        let source = t[o];
-        let largest = ask::weigh(words, image, source, lemmas, at);
-        let Exact::Value(z) = largest else {
+        let source = t[lemmas::slot(words::source(w))];
+        let Exact::Value(z) = ask::weigh(words, image, source, lemmas, at) else {
             return Tables {
                 premises,
                 keys,

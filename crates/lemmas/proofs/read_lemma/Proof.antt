@@ -88,23 +88,23 @@ returns-2 c = c .no-lemma2 .ensures ∙ premises-stopped (theProgram (c .before 
 enum-told-2 : tie.Need-enum-told-2
 enum-told-2 c = search needs
 
-add-read-mults : tie.Need-add-read-mults
-add-read-mults c = let w = premises-within (theProgram (c .before .before .before .before .before .before .before .before .before .before .before .before .before .before .before .args .words .now)) (c .before .before .before .before .before .before .before .before .before .before .before .before .before .before .before .args .room) (c .before .before .before .before .before .before .before .before .before .before .before .before .before .before .before .args .lemmas .now) (c .before .before .before .before .before .before .before .before .before .before .before .before .before .before .before .args .at) (sym (head-is (c .before .before .before .before .before .before .before)) ∙ c .before .before .before .before .before .enum-told .given .1) (sym (premises-is (c .before .before)) ∙ c .enum-told2 .given .1) in omega (arith, c .before .before .before .before .before .before .before .before .before .before .before .before .before .before .before .good .1 .1 .1 .0 .0)
-
 count-rows-requires : tie.Need-count-rows-requires
 count-rows-requires c κs = source-few (c .before .before .before .before .before .before .before .before .before .before .before .before .before .before .before .args .words .now) (c .before .before .before .before .before .before .before .before .before .before .before .before .before .before .before .pre .0) _ 0 (c .before .before .before .before .before .before .before .before .before .before .before .before .word-at .ensures) refl (c .before .before .before .before .before .before .before .before .before .before .before .source .ensures) (c .before .before .before .before .before .before .before .before .before .before .goal .ensures) (c .before .before .before .before .before .before .before .before .before .before .before .before .before .before .before .pre .2)
+
+add-read-mults : tie.Need-add-read-mults
+add-read-mults c = let w = premises-within (theProgram (c .before .before .before .before .before .before .before .before .before .before .before .before .before .before .before .before .args .words .now)) (c .before .before .before .before .before .before .before .before .before .before .before .before .before .before .before .before .args .room) (c .before .before .before .before .before .before .before .before .before .before .before .before .before .before .before .before .args .lemmas .now) (c .before .before .before .before .before .before .before .before .before .before .before .before .before .before .before .before .args .at) (sym (head-is (c .before .before .before .before .before .before .before .before)) ∙ c .before .before .before .before .before .before .enum-told .given .1) (sym (premises-is (c .before .before .before)) ∙ c .before .enum-told2 .given .1) in omega (arith, c .before .before .before .before .before .before .before .before .before .before .before .before .before .before .before .before .good .1 .1 .1 .0 .0)
 
 read-mults-requires : tie.Need-read-mults-requires
 read-mults-requires c κs = let w = premises-within (theProgram (c .before .before .before .before .before .before .before .before .before .before .before .before .before .before .before .before .args .words .now)) (c .before .before .before .before .before .before .before .before .before .before .before .before .before .before .before .before .args .room) (c .before .before .before .before .before .before .before .before .before .before .before .before .before .before .before .before .args .lemmas .now) (c .before .before .before .before .before .before .before .before .before .before .before .before .before .before .before .before .args .at) (sym (head-is (c .before .before .before .before .before .before .before .before)) ∙ c .before .before .before .before .before .before .enum-told .given .1) (sym (premises-is (c .before .before .before)) ∙ c .before .enum-told2 .given .1) in omega arith
 
-enum-known-after : tie.Need-enum-known-after
-enum-known-after c = search needs
+enum-known-why : tie.Need-enum-known-why
+enum-known-why c = search needs
 
 no-lemma-requires-3 : tie.Need-no-lemma-requires-3
 no-lemma-requires-3 c κs = search needs
 
-enum-known-after-2 : tie.Need-enum-known-after-2
-enum-known-after-2 c = search needs
+enum-known-j : tie.Need-enum-known-j
+enum-known-j c = search needs
 
 index-requires : tie.Need-index-requires
 index-requires c κs = search needs
@@ -113,10 +113,10 @@ of-requires : tie.Need-of-requires
 of-requires c κs = search needs
 
 returns-3 : tie.Need-returns-3
-returns-3 c = c .no-lemma3 .ensures ∙ mults-refused (theProgram (c .before .before .before .before .before .before .before .before .before .before .before .before .before .before .before .before .before .before .before .before .before .args .words .now)) (c .before .before .before .before .before .before .before .before .before .before .before .before .before .before .before .before .before .before .before .before .before .args .room) (c .before .before .before .before .before .before .before .before .before .before .before .before .before .before .before .before .before .before .before .before .before .args .lemmas .now) (c .before .before .before .before .before .before .before .before .before .before .before .before .before .before .before .before .before .before .before .before .before .args .at) (sym (head-is (c .before .before .before .before .before .before .before .before .before .before .before .before .before)) ∙ c .before .before .before .before .before .before .before .before .before .before .before .enum-told .given .1) (sym (premises-is (c .before .before .before .before .before .before .before .before)) ∙ c .before .before .before .before .before .before .enum-told2 .given .1) (sym (mults-is (c .before .before .before .before)) ∙ c .before .before .after .given .1)
+returns-3 c = c .no-lemma3 .ensures ∙ mults-refused (theProgram (c .before .before .before .before .before .before .before .before .before .before .before .before .before .before .before .before .before .before .before .before .before .args .words .now)) (c .before .before .before .before .before .before .before .before .before .before .before .before .before .before .before .before .before .before .before .before .before .args .room) (c .before .before .before .before .before .before .before .before .before .before .before .before .before .before .before .before .before .before .before .before .before .args .lemmas .now) (c .before .before .before .before .before .before .before .before .before .before .before .before .before .before .before .before .before .before .before .before .before .args .at) (sym (head-is (c .before .before .before .before .before .before .before .before .before .before .before .before .before)) ∙ c .before .before .before .before .before .before .before .before .before .before .before .enum-told .given .1) (sym (premises-is (c .before .before .before .before .before .before .before .before)) ∙ c .before .before .before .before .before .before .enum-told2 .given .1) (sym (mults-is (c .before .before .before .before)) ∙ c .before .before .why .given .1)
 
 returns-4 : tie.Need-returns-4
-returns-4 c = rw (c .of .ensures, c .before .index .ensures, c .before .before .before .before .before .before .before .before .before .before .before .before .before .before .before .before .before .goal .ensures, c .before .before .before .before .before .before .before .before .before .before .before .before .before .before .before .before .before .before .source .ensures, c .before .before .before .before .before .before .before .before .before .before .before .word-at2 .ensures, c .before .before .before .before .before .before .before .before .before .before .before .before .before .before .before .before .before .before .before .word-at .ensures) (lemma-taken (theProgram (c .before .before .before .before .before .before .before .before .before .before .before .before .before .before .before .before .before .before .before .before .before .before .args .words .now)) (c .before .before .before .before .before .before .before .before .before .before .before .before .before .before .before .before .before .before .before .before .before .before .args .room) (c .before .before .before .before .before .before .before .before .before .before .before .before .before .before .before .before .before .before .before .before .before .before .args .lemmas .now) (c .before .before .before .before .before .before .before .before .before .before .before .before .before .before .before .before .before .before .before .before .before .before .args .at) (sym (head-is (c .before .before .before .before .before .before .before .before .before .before .before .before .before .before)) ∙ c .before .before .before .before .before .before .before .before .before .before .before .before .enum-told .given .1) (sym (premises-is (c .before .before .before .before .before .before .before .before .before)) ∙ c .before .before .before .before .before .before .before .enum-told2 .given .1) (sym (mults-is (c .before .before .before .before .before)) ∙ c .before .before .before .after2 .given .1))
+returns-4 c = rw (c .of .ensures, c .before .index .ensures, c .before .before .before .before .before .before .before .before .before .before .before .before .before .before .before .before .before .goal .ensures, c .before .before .before .before .before .before .before .before .before .before .before .before .before .before .before .before .before .before .source .ensures, c .before .before .before .before .before .before .before .before .before .before .before .word-at2 .ensures, c .before .before .before .before .before .before .before .before .before .before .before .before .before .before .before .before .before .before .before .word-at .ensures) (lemma-taken (theProgram (c .before .before .before .before .before .before .before .before .before .before .before .before .before .before .before .before .before .before .before .before .before .before .args .words .now)) (c .before .before .before .before .before .before .before .before .before .before .before .before .before .before .before .before .before .before .before .before .before .before .args .room) (c .before .before .before .before .before .before .before .before .before .before .before .before .before .before .before .before .before .before .before .before .before .before .args .lemmas .now) (c .before .before .before .before .before .before .before .before .before .before .before .before .before .before .before .before .before .before .before .before .before .before .args .at) (sym (head-is (c .before .before .before .before .before .before .before .before .before .before .before .before .before .before)) ∙ c .before .before .before .before .before .before .before .before .before .before .before .before .enum-told .given .1) (sym (premises-is (c .before .before .before .before .before .before .before .before .before)) ∙ c .before .before .before .before .before .before .before .enum-told2 .given .1) (sym (mults-is (c .before .before .before .before .before)) ∙ c .before .before .before .j .given .1))
 
 pub read-lemma-spec : {M : Type 1} → statement M
 read-lemma-spec =
@@ -141,12 +141,12 @@ read-lemma-spec =
     no-lemma-requires-2
     returns-2
     enum-told-2
-    add-read-mults
     count-rows-requires
+    add-read-mults
     read-mults-requires
-    enum-known-after
+    enum-known-why
     no-lemma-requires-3
-    enum-known-after-2
+    enum-known-j
     index-requires
     of-requires
     returns-3

@@ -74,8 +74,11 @@ returns-3 c = c .no-image3 .ensures ∙ rw (end-stopped (c .before .before .befo
 enum-told-3 : tie.Need-enum-told-3
 enum-told-3 c = search needs
 
+ready-requires : tie.Need-ready-requires
+ready-requires c κs = search needs
+
 returns-4 : tie.Need-returns-4
-returns-4 c = rest-read (c .before .before .before .before .before .before .before .before .before .before .before .before .before .before .before .before .before .args .ranges .count) (c .before .before .before .before .before .before .before .before .before .before .before .before .before .before .before .before .before .args .preds .count) (c .before .before .before .before .before .before .before .before .before .before .before .before .before .before .before .before .before .pre .0) (c .before .before .before .before .before .before .before .before .before .before .before .before .before .before .before .before .before .args .words .now) (c .before .before .before .before .before .before .before .before .before .before .before .before .before .before .before .before .before .args .at) (c .before .before .before .before .before .before .before .before .before .before .before .before .before .before .before .before .before .pre .2) (c .before .before .before .before .before .before .before .before .before .before .before .before .before .before .before .read-actions .ensures) (c .before .before .before .before .before .before .before .before .before .before .before .before .before .enum-told .given .1) (forbidden-is (c .before .before .before .before .before .before .before .before .before .before .before)) (c .before .before .before .before .before .before .before .before .before .enum-told2 .given .1) (c .before .before .before .before .before .before .before .before .before .before .before .before .before .before .before .before .before .args .ranges) (c .before .before .before .before .before .before .before .before .before .before .before .before .before .before .before .before .before .args .start) (c .before .before .before .before .before .before .before .before .before .before .before .before .before .before .before .before .before .args .preds) (sym (end-is (c .before .before .before .before .before .before .before)) ∙ c .before .before .before .before .before .enum-told3 .given .1)
+returns-4 c = c .ready .ensures ∙ rest-read (c .before .before .before .before .before .before .before .before .before .before .before .before .before .before .before .before .before .before .args .ranges .count) (c .before .before .before .before .before .before .before .before .before .before .before .before .before .before .before .before .before .before .args .preds .count) (c .before .before .before .before .before .before .before .before .before .before .before .before .before .before .before .before .before .before .pre .0) (c .before .before .before .before .before .before .before .before .before .before .before .before .before .before .before .before .before .before .args .words .now) (c .before .before .before .before .before .before .before .before .before .before .before .before .before .before .before .before .before .before .args .at) (c .before .before .before .before .before .before .before .before .before .before .before .before .before .before .before .before .before .before .pre .2) (c .before .before .before .before .before .before .before .before .before .before .before .before .before .before .before .before .read-actions .ensures) (c .before .before .before .before .before .before .before .before .before .before .before .before .before .before .enum-told .given .1) (forbidden-is (c .before .before .before .before .before .before .before .before .before .before .before .before)) (c .before .before .before .before .before .before .before .before .before .before .enum-told2 .given .1) (c .before .before .before .before .before .before .before .before .before .before .before .before .before .before .before .before .before .before .args .ranges) (c .before .before .before .before .before .before .before .before .before .before .before .before .before .before .before .before .before .before .args .start) (c .before .before .before .before .before .before .before .before .before .before .before .before .before .before .before .before .before .before .args .preds) (sym (end-is (c .before .before .before .before .before .before .before .before)) ∙ c .before .before .before .before .before .before .enum-told3 .given .1)
 
 pub load-rest-spec : {M : Type 1} → statement M
 load-rest-spec =
@@ -98,4 +101,5 @@ load-rest-spec =
     no-image-requires-3
     returns-3
     enum-told-3
+    ready-requires
     returns-4)

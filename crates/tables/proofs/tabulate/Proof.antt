@@ -63,8 +63,8 @@ weigh-requires c κs =
     let f = l .before .before .before .before in
     (f .pre .0, f .pre .1 .here (l .loop .k) (q .loop-test .taken) .0, slot-read (sourceOf (theProgram (f .args .words .now))) (l .before .sources .result) _ (l .before .sources .ensures) (s .slot .ensures .0) (s .before .source .ensures) (s .before .before .word-at .ensures))
 
-enum-known-largest : tie.Need-enum-known-largest Inv-loop μ-loop
-enum-known-largest c = search needs
+enum-known-z : tie.Need-enum-known-z Inv-loop μ-loop
+enum-known-z c = search needs
 
 enum-told : tie.Need-enum-told Inv-loop μ-loop
 enum-told c = search needs
@@ -118,12 +118,12 @@ loop-less c = search needs
 
 loop-again : tie.Need-loop-again Inv-loop μ-loop
 loop-again c =
-    let fits : SFits w64 (c .before .before .before .before .largest .given .0 .0) = search needs in
+    let fits : SFits w64 (c .before .before .before .before .z .given .0 .0) = search needs in
     let a = c .before .before .before .before in
     let q = a .before .before .before .before .before .before .before in
     let l = q .before in
     let f = l .before .before .before .before in
-    (omega arith, turn-next (theProgram (f .args .words .now)) (f .pre .0 .accepted .good) (f .args .lemmas .now) (f .args .t4) (f .args .count) (theLemmas (theProgram (f .args .words .now)) (f .args .lemmas .now)) (f .pre .1) (l .loop .inv .1) (q .loop-test .taken) (a .before .before .weigh .ensures) (a .largest .given .1) (ap payload (c .before .before .word-at2 .ensures)) (c .before .key-at .ensures ∙ rw (a .before .before .before .before .before .before .word-at .ensures) refl) (rw (toZ-ofZ fits) at (c .one-if-below .ensures .0)))
+    (omega arith, turn-next (theProgram (f .args .words .now)) (f .pre .0 .accepted .good) (f .args .lemmas .now) (f .args .t4) (f .args .count) (theLemmas (theProgram (f .args .words .now)) (f .args .lemmas .now)) (f .pre .1) (l .loop .inv .1) (q .loop-test .taken) (a .before .before .weigh .ensures) (a .z .given .1) (ap payload (c .before .before .word-at2 .ensures)) (c .before .key-at .ensures ∙ rw (a .before .before .before .before .before .before .word-at .ensures) refl) (rw (toZ-ofZ fits) at (c .one-if-below .ensures .0)))
 
 returns-2 : tie.Need-returns-2 Inv-loop μ-loop
 returns-2 c =
@@ -147,7 +147,7 @@ tabulate-spec =
     mul-source
     array-copy-out-source
     weigh-requires
-    enum-known-largest
+    enum-known-z
     enum-told
     returns
     add-word-at
