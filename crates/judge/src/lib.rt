@@ -11,6 +11,7 @@ ghost use Rattle.search.specs.Search.{Graph};
 ghost use Rattle.records.specs.Records.{mostNodes, graphWords};
 ghost use Rattle.tables.specs.Tabled.{theLemmas, Begun};
 ghost use Rattle.verdict.specs.Verdicts.{findings, pathWords, pathList};
+ghost use Rattle.verdict.specs.Working.{foundOf, Within};
 ghost use Rattle.judge.specs.Calls.{verdict, pathTo, judge, Demand2Of, SafeOf, WalksOf};
 ghost use Rattle.judge.specs.Ready.{Ready, judgeList};
 ghost use Rattle.judge.specs.declared.Judged.the-variants.{Safe};
@@ -30,6 +31,36 @@ pub enum Judged {
     Refused(Refusal),
 }
 
+// What is found first in a whole graph.
+fn first_finding(
+    words: &[u32],
+    image: Image,
+    premises: &[u32],
+    keys: &[u32],
+    n: usize,
+    graph: &[u32],
+    nodes: usize,
+) -> Found
+    requires { ⌜ Held (now words) image × (n ≤ length (now premises)) × (n ≤ length (now keys)) × (graphWords ≤ length (now graph)) × ((ls : List Lemma) × (g : Graph) × (edges : ℕ) × Ready (theProgram (now words)) ls g (entries (now premises) (now keys) n) nodes edges (now graph)) ⌝ }
+    ensures { λ r. ⌜ Within nodes r × ((ls : List Lemma) (g : Graph) (edges : ℕ) → Ready (theProgram (now (words .entry))) ls g (entries (now (premises .entry)) (now (keys .entry)) n) nodes edges (now (graph .entry)) → r ≡ foundOf (findings (theProgram (now (words .entry))) ls g)) ⌝ }
+{
+    let asked = verdict::asked_ends(words, image);
+    let literals = image.literals;
+    let forbidden = image.forbidden;
+    let actions = image.actions;
+    verdict::first_finding(
+        premises,
+        keys,
+        n,
+        literals,
+        forbidden,
+        asked,
+        actions,
+        graph,
+        nodes,
+    )
+}
+
 // The verdict on a whole graph, and its path.
 fn judge_graph(
     words: &[u32],
@@ -45,21 +76,8 @@ fn judge_graph(
     requires { ⌜ Held (now words) image × (n ≤ length (now premises)) × (n ≤ length (now keys)) × (graphWords ≤ length (now graph)) × (pathWords ≤ length (now path)) × ((ls : List Lemma) × (g : Graph) × Ready (theProgram (now words)) ls g (entries (now premises) (now keys) n) nodes edges (now graph)) ⌝ }
     ensures { λ r. ⌜ ((ls : List Lemma) (g : Graph) → Ready (theProgram (now (words .entry))) ls g (entries (now (premises .entry)) (now (keys .entry)) n) nodes edges (now (graph .entry)) → (r ≡ verdict g (findings (theProgram (now (words .entry))) ls g)) × (now (path .exit) ≡ pathList (pathTo g (findings (theProgram (now (words .entry))) ls g)) (now (path .entry)))) ⌝ }
 {
-    let asked = verdict::asked_ends(words, image);
-    let literals = image.literals;
-    let forbidden = image.forbidden;
     let actions = image.actions;
-    let found = verdict::first_finding(
-        premises,
-        keys,
-        n,
-        literals,
-        forbidden,
-        asked,
-        actions,
-        graph,
-        nodes,
-    );
+    let found = first_finding(words, image, premises, keys, n, graph, nodes);
     match found {
         Found::Nothing => {
             verdict::clear_path(&mut *path);

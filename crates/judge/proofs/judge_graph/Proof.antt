@@ -14,16 +14,9 @@ use borrow.Author.Needs.{needs}
 use Rattle.judge.proofs.judge_graph.Statement.{statement}
 use Rattle.judge.proofs.judge_graph.Tie as tie
 
-found-is : (c : tie.After-first-finding) (ls : List Lemma) (g : Graph) → let s = c .before .before .before .before .before .before .before .before .args in
-    Ready (theProgram (s .words .now)) ls g (entries (s .premises .now) (s .keys .now) (s .n)) (s .nodes) (s .edges) (s .graph .now) → c .first-finding .result ≡ foundOf (findings (theProgram (s .words .now)) ls g)
-found-is c ls g r = c .first-finding .ensures .1 (theProgram (c .before .before .before .before .before .before .before .before .args .words .now)) ls g (judging (c .before .before .before .before .before .before .before .before .args .words .now) (c .before .before .before .before .before .before .before .before .pre .0) ls g r (c .before .before .asked-ends .ensures)) (r .nodes-are)
-
-asked-ends-requires : tie.Need-asked-ends-requires
-asked-ends-requires c κs = search needs
-
 first-finding-requires : tie.Need-first-finding-requires
-first-finding-requires c κs = let s = c .before .before .before .before .before .before .before in let f = image-few (s .args .words .now) (s .pre .0) (s .pre .5 .0) (s .pre .5 .1) (s .pre .5 .2) in
-    (s .pre .1, s .pre .2, f .0, f .1, s .pre .3, nodes-few (s .args .words .now) (s .pre .0) (s .pre .5 .0) (s .pre .5 .1) (s .pre .5 .2))
+first-finding-requires c κs = let s = c .before .before .before .before .before in
+    (s .pre .0, s .pre .1, s .pre .2, s .pre .3, (s .pre .5 .0, s .pre .5 .1, s .args .edges, s .pre .5 .2))
 
 enum-told : tie.Need-enum-told
 enum-told c = search needs
@@ -35,7 +28,7 @@ enum-known-found : tie.Need-enum-known-found
 enum-known-found c = search needs
 
 write-path-requires : tie.Need-write-path-requires
-write-path-requires c κs = let s = c .before .before .before .before .before .before .before .before .before .before .before .before in let f = image-few (s .args .words .now) (s .pre .0) (s .pre .5 .0) (s .pre .5 .1) (s .pre .5 .2) in
+write-path-requires c κs = let s = c .before .before .before .before .before .before .before .before .before .before in let f = image-few (s .args .words .now) (s .pre .0) (s .pre .5 .0) (s .pre .5 .1) (s .pre .5 .2) in
     let k = rw (c .before .before .found .given .1) at (c .before .before .before .before .first-finding .ensures .0) in
     let m = nodes-few (s .args .words .now) (s .pre .0) (s .pre .5 .0) (s .pre .5 .1) (s .pre .5 .2) in
     (s .pre .3, f .1, omega arith, s .pre .4)
@@ -44,7 +37,7 @@ enum-known-found-2 : tie.Need-enum-known-found-2
 enum-known-found-2 c = search needs
 
 write-path-requires-2 : tie.Need-write-path-requires-2
-write-path-requires-2 c κs = let s = c .before .before .before .before .before .before .before .before .before .before .before .before in let f = image-few (s .args .words .now) (s .pre .0) (s .pre .5 .0) (s .pre .5 .1) (s .pre .5 .2) in
+write-path-requires-2 c κs = let s = c .before .before .before .before .before .before .before .before .before .before in let f = image-few (s .args .words .now) (s .pre .0) (s .pre .5 .0) (s .pre .5 .1) (s .pre .5 .2) in
     let k = rw (c .before .before .found2 .given .1) at (c .before .before .before .before .first-finding .ensures .0) in
     let m = nodes-few (s .args .words .now) (s .pre .0) (s .pre .5 .0) (s .pre .5 .1) (s .pre .5 .2) in
     (s .pre .3, f .1, omega arith, s .pre .4)
@@ -53,15 +46,15 @@ same-length : tie.Need-same-length
 same-length c = search needs
 
 returns : tie.Need-returns
-returns c = λ ls g r. let v = found-nothing g (r .nodes-are) (r .edges-are) (findings (theProgram (c .before .before .before .before .before .before .before .before .before .before .before .before .before .before .args .words .now)) ls g) (sym (c .before .before .before .before .enum-told .given .1) ∙ found-is (c .before .before .before .before .before .before) ls g r) in
-    (v .0, c .before .before .clear-path .ensures ∙ ap (λ (js : List ℕ). pathList js (c .before .before .before .before .before .before .before .before .before .before .before .before .before .before .args .path .now)) (v .1))
+returns c = λ ls g r. let v = found-nothing g (r .nodes-are) (r .edges-are) (findings (theProgram (c .before .before .before .before .before .before .before .before .before .before .before .before .args .words .now)) ls g) (sym (c .before .before .before .before .enum-told .given .1) ∙ c .before .before .before .before .before .before .first-finding .ensures .1 ls g _ r) in
+    (v .0, c .before .before .clear-path .ensures ∙ ap (λ (js : List ℕ). pathList js (c .before .before .before .before .before .before .before .before .before .before .before .before .args .path .now)) (v .1))
 
 same-length-2 : tie.Need-same-length-2
 same-length-2 c = search needs
 
 returns-2 : tie.Need-returns-2
-returns-2 c = λ ls g r. let s = c .before .before .before .before .before .before .before .before .before .before .before .before .before .before .before in
-    let v = found-forbid g (r .nodes-are) (r .edges-are) (findings (theProgram (s .args .words .now)) ls g) (sym (c .before .before .before .before .before .found .given .1) ∙ found-is (c .before .before .before .before .before .before .before) ls g r) in
+returns-2 c = λ ls g r. let s = c .before .before .before .before .before .before .before .before .before .before .before .before .before in
+    let v = found-forbid g (r .nodes-are) (r .edges-are) (findings (theProgram (s .args .words .now)) ls g) (sym (c .before .before .before .before .before .found .given .1) ∙ c .before .before .before .before .before .before .before .first-finding .ensures .1 ls g _ r) in
     let k = rw (c .before .before .before .before .before .found .given .1) at (c .before .before .before .before .before .before .before .first-finding .ensures .0) in
     (v .0, c .before .before .write-path .ensures g (r .before) (listed-as (s .args .words .now) (s .pre .0) ls g r) (traced-here (s .args .words .now) (s .pre .0) ls g r) (omega (arith, k, r .nodes-are)) ∙ ap (λ (js : List ℕ). pathList js (s .args .path .now)) (v .1))
 
@@ -69,8 +62,8 @@ same-length-3 : tie.Need-same-length-3
 same-length-3 c = search needs
 
 returns-3 : tie.Need-returns-3
-returns-3 c = λ ls g r. let s = c .before .before .before .before .before .before .before .before .before .before .before .before .before .before .before in
-    let v = found-off g (r .nodes-are) (r .edges-are) (findings (theProgram (s .args .words .now)) ls g) (sym (c .before .before .before .before .before .found2 .given .1) ∙ found-is (c .before .before .before .before .before .before .before) ls g r) in
+returns-3 c = λ ls g r. let s = c .before .before .before .before .before .before .before .before .before .before .before .before .before in
+    let v = found-off g (r .nodes-are) (r .edges-are) (findings (theProgram (s .args .words .now)) ls g) (sym (c .before .before .before .before .before .found2 .given .1) ∙ c .before .before .before .before .before .before .before .first-finding .ensures .1 ls g _ r) in
     let k = rw (c .before .before .before .before .before .found2 .given .1) at (c .before .before .before .before .before .before .before .first-finding .ensures .0) in
     (v .0, c .before .before .write-path2 .ensures g (r .before) (listed-as (s .args .words .now) (s .pre .0) ls g r) (traced-here (s .args .words .now) (s .pre .0) ls g r) (omega (arith, k, r .nodes-are)) ∙ ap (λ (js : List ℕ). pathList js (s .args .path .now)) (v .1))
 
@@ -78,7 +71,6 @@ pub judge-graph-spec : {M : Type 1} → statement M
 judge-graph-spec =
     tie.close
     (tie.spec
-    asked-ends-requires
     first-finding-requires
     enum-told
     clear-path-requires

@@ -1,0 +1,23 @@
+use borrow.Author.Needs.{needs}
+use Rattle.lemmas.specs.Sources.{theProgram}
+use Rattle.judge.proofs.Judging.{nodes-few, judging, image-few}
+use Rattle.judge.proofs.first_finding.Statement.{statement}
+use Rattle.judge.proofs.first_finding.Tie as tie
+
+asked-ends-requires : tie.Need-asked-ends-requires
+asked-ends-requires c κs = search needs
+
+first-finding-requires : tie.Need-first-finding-requires
+first-finding-requires c κs =
+    let s = c .before .before .before .before .before .before in
+    let f = image-few (s .args .words .now) (s .pre .0) (s .pre .4 .0) (s .pre .4 .1) (s .pre .4 .3) in
+    (s .pre .1, s .pre .2, f .0, f .1, s .pre .3, nodes-few (s .args .words .now) (s .pre .0) (s .pre .4 .0) (s .pre .4 .1) (s .pre .4 .3))
+
+returns : tie.Need-returns
+returns c =
+    let a = c .before .before in
+    let s = a .before .before .before .before .before in
+    (c .first-finding .ensures .0, λ ls g edges r. c .first-finding .ensures .1 (theProgram (s .args .words .now)) ls g (judging (s .args .words .now) (s .pre .0) ls g r (a .asked-ends .ensures)) (r .nodes-are))
+
+pub first-finding-spec : {M : Type 1} → statement M
+first-finding-spec = tie.close (tie.spec asked-ends-requires first-finding-requires returns)
