@@ -1,9 +1,8 @@
 -- An action from its first word, its guard rows and its assignments.
-use mathlib.Core.Path.{_≡_, refl, sym, ap, _∙_}
+use mathlib.Core.Path.{_≡_, refl, ap, _∙_}
 use mathlib.Core.Bool.{Bool, _&&_}
-use mathlib.Core.List.{List, [], _∷_}
-use Prim.Native.Nat.{ℕ, zero, suc, _+_, _-_, _≤_, _<_}
-use native.Mathlib.Omega.{arith}
+use mathlib.Core.List.{List}
+use Prim.Native.Nat.{ℕ, _-_, _≤_}
 use lib.Dec.{leb}
 use lib.ListN.{length, drop}
 use lib.Seq.{sets as stores}
@@ -11,7 +10,7 @@ use Rattle.words.specs.Words.{bits, ACTION}
 use Rattle.words.specs.declared.Refusal.{Refusal}
 use Rattle.rows.specs.declared.Row.{Row}
 use Rattle.grammar.specs.Reading.{Read, got, refused, one, always, after, pure, times}
-use Rattle.grammar.specs.Programs.{Assignment, Action}
+use Rattle.grammar.specs.Programs.{Assignment}
 use Rattle.grammar.specs.Grammar.{row, sets, action}
 use borrow.Author.Tests.{leb-true}
 use Rattle.integers.proofs.Tests.{and-true}

@@ -1,8 +1,8 @@
 -- An assignment, and the loop over an action's assignments.
 use mathlib.Core.Path.{_≡_, refl, sym, ap, _∙_}
-use mathlib.Core.Bool.{Bool, true, false}
-use mathlib.Core.List.{List, [], _∷_}
-use Prim.Native.Nat.{ℕ, zero, suc, _+_, _-_, _≤_, _<_}
+use mathlib.Core.Bool.{Bool, true}
+use mathlib.Core.List.{List, _∷_}
+use Prim.Native.Nat.{ℕ, suc, _+_, _-_, _≤_, _<_}
 use native.Mathlib.Omega.{arith}
 use native.Mathlib.Numerals.{add-one}
 use native.Mathlib.Nat.{sub-zero}
@@ -19,7 +19,6 @@ use Rattle.reader.specs.declared.Next.the-variants.{At, Refused}
 use Rattle.reader.specs.Results.{nextOf}
 use Rattle.reader.proofs.RowsLoop.{answer-refused, answer-at, left-is, left-within}
 use Rattle.actions.specs.declared.SetRead.{SetRead}
-use Rattle.actions.specs.declared.Sets.{Sets}
 use Rattle.actions.specs.Results.{setRead, assigned, marked, setsFrom, setsRead, noSets, keepRows, noMarks}
 
 -- ---- an assignment from its first word and its row

@@ -13,7 +13,7 @@
 use mathlib.Core.Bool.{Bool, true, false}
 use mathlib.Core.List.{List, [], _∷_}
 use Prim.Native.Nat.{ℕ}
-use lib.IntN.{ℤ, pos}
+use lib.IntN.{pos}
 use lib.ListN.{length, set, replicate}
 use lib.Seq.{sets}
 use Rattle.words.specs.declared.Refusal.{Refusal}

@@ -1,12 +1,12 @@
 // Reading assignments and actions.
 ghost use mathlib.Core.Path.{_≡_};
-ghost use mathlib.Core.Bool.{Bool, _&&_};
-ghost use Prim.Native.Nat.{_+_, _<_, _≤_, _^_};
+ghost use mathlib.Core.Bool.{_&&_};
+ghost use Prim.Native.Nat.{_+_, _<_, _≤_};
 ghost use lib.Dec.{leb, ltb};
 ghost use lib.ListN.{length, drop};
 ghost use Rattle.grammar.specs.Reading.{refused};
 ghost use Rattle.grammar.specs.Grammar.{assignment, sets, action};
-ghost use Rattle.actions.specs.Results.{setRead, keepRows, noSets, setsRead, actionRead, withSets};
+ghost use Rattle.actions.specs.Results.{setRead, noSets, setsRead, actionRead, withSets};
 use reader::Next;
 use rows::Row;
 use words::Kind;

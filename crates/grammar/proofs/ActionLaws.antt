@@ -1,24 +1,21 @@
 -- An action and its words, and a forbidden combination and its word.
-use mathlib.Core.Path.{_≡_, refl, sym, ap, _∙_, subst}
-use mathlib.Core.Bool.{Bool, true, false, cond, _&&_}
+use mathlib.Core.Path.{_≡_, refl, ap, _∙_}
+use mathlib.Core.Bool.{Bool, true, false, _&&_}
 use mathlib.Core.List.{List, [], _∷_, _++_, append-assoc}
-use Prim.Native.Nat.{ℕ, zero, suc, _+_, _-_, _*_, _^_, _≤_, _<_}
+use Prim.Native.Nat.{ℕ, zero, suc, _+_, _-_, _*_, _≤_}
 use native.Mathlib.Omega.{arith}
 use lib.Dec.{eqb, ltb, leb}
-use lib.Bits.{bitAnd}
-use lib.ListN.{length, length-append}
+use lib.ListN.{length}
 use borrow.Author.Tests.{eqb-true, eq-eqb, ltb-true, lt-ltb, leb-true, le-leb}
 use Rattle.integers.proofs.Tests.{and-true}
-use Rattle.words.specs.Words.{bits, kindOf, payload, word, literalsOf, TERM, ACTION, SET, SETS}
-use Rattle.words.specs.declared.Literals.{Literals}
+use Rattle.words.specs.Words.{bits, kindOf, payload, word, TERM, ACTION, SET}
 use Rattle.words.proofs.Laws.{kind-word, payload-word, word-split}
-use Rattle.rows.specs.declared.Row.{Row}
-use Rattle.grammar.specs.Reading.{got, one, always, begins, times, many}
+use Rattle.grammar.specs.Reading.{got, one, always, begins, times}
 use Rattle.grammar.specs.Programs.{Assignment, Action}
 use Rattle.grammar.specs.Grammar.{row, assignment, sets, action}
 use Rattle.grammar.specs.Encoding.{concat, encodeRow, encodeSet, encodeAction}
-use Rattle.grammar.specs.WellFormed.{Each, Few, RowOk, SetOk, Rising, ActionOk}
-use Rattle.grammar.proofs.ReadingLaws.{Codec, Taken, retaken, one-taken, bound, joined, one-out, one-in, times-codec, concat-head}
+use Rattle.grammar.specs.WellFormed.{SetOk, Rising, ActionOk}
+use Rattle.grammar.proofs.ReadingLaws.{Codec, Taken, retaken, bound, joined, one-out, one-in, times-codec}
 use Rattle.grammar.proofs.RowLaws.{row-codec}
 
 -- ---- assignments

@@ -2,22 +2,22 @@
 use mathlib.Core.Path.{_≡_, refl, sym, ap, _∙_, subst}
 use mathlib.Core.Bool.{Bool, true, false}
 use mathlib.Core.List.{List, [], _∷_, _++_, append-assoc}
-use Prim.Native.Nat.{ℕ, zero, suc, _+_, _^_, _≤_, _<_}
+use Prim.Native.Nat.{ℕ, suc, _+_, _^_, _≤_, _<_}
 use native.Mathlib.Omega.{arith}
 use native.Mathlib.Nat.{not-suc-le-zero}
 use lib.Dec.{eqb, leb}
 use lib.ListN.{length}
-use borrow.Author.Tests.{eqb-true, eq-eqb, leb-true, le-leb}
-use Rattle.words.specs.Words.{bits, kindOf, payload, word, VAR, TERM, INIT, PRED, ACTION, SETS, END}
+use borrow.Author.Tests.{eqb-true, leb-true, le-leb}
+use Rattle.words.specs.Words.{payload, word, VAR, TERM, INIT, PRED, ACTION, SETS, END}
 use Rattle.words.proofs.Laws.{kind-word, payload-word, word-split}
 use Rattle.rows.specs.declared.Row.{Row}
 use Rattle.rows.specs.declared.Range.{Range}
 use Rattle.words.specs.declared.Literals.{Literals}
-use Rattle.grammar.specs.Reading.{Read, got, refused, one, always, begins, times, many}
-use Rattle.grammar.specs.Programs.{Action, Program}
-use Rattle.grammar.specs.Grammar.{range, ranges, row, rows, action, combination, nothing, end, program}
+use Rattle.grammar.specs.Reading.{Read, got, refused, one, always, begins, many}
+use Rattle.grammar.specs.Programs.{Program}
+use Rattle.grammar.specs.Grammar.{range, ranges, rows, action, combination, nothing, end, program}
 use Rattle.grammar.specs.Encoding.{concat, encodeRange, encodeRow, encodeRows, encodeAction, encodeLiterals, encode}
-use Rattle.grammar.specs.WellFormed.{Each, Few, RangeOk, RowOk, ActionOk, LiteralsOk, WellFormed}
+use Rattle.grammar.specs.WellFormed.{Each, Few, RangeOk, RowOk, LiteralsOk, WellFormed}
 use Rattle.grammar.proofs.ReadingLaws.{Codec, Taken, retaken, bound, joined, one-out, one-in, not-got, times-codec, many-out, many-into, concat-head}
 use Rattle.grammar.proofs.WordLaws.{range-codec, range-full, range-starts, literals-codec, literals-full, literals-starts}
 use Rattle.grammar.proofs.RowLaws.{row-codec}

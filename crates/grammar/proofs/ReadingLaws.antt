@@ -1,18 +1,16 @@
 use mathlib.Core.Path.{_≡_, refl, sym, ap, _∙_, subst}
-use mathlib.Core.Bool.{Bool, true, false, cond, _&&_}
+use mathlib.Core.Bool.{Bool, true, false, cond}
 use mathlib.Core.Logic.{_⊎_, inl, inr, ⊎-elim}
 use native.Mathlib.Nat.{not-suc-le-zero, le-of-suc-le-suc}
 use mathlib.Core.List.{List, [], _∷_, _++_, append-assoc}
-use Prim.Native.Nat.{ℕ, zero, suc, _+_, _≤_, _<_}
+use Prim.Native.Nat.{ℕ, zero, suc, _+_, _≤_}
 use native.Mathlib.Omega.{arith}
-use native.Mathlib.Numerals.{add-one}
-use lib.Dec.{eqb}
 use lib.ListN.{length, length-append}
 use borrow.Author.Tests.{eqb-true, eq-eqb}
 use Rattle.integers.proofs.Tests.{and-true}
 use Rattle.words.specs.Words.{kindOf, TERM}
 use Rattle.words.specs.declared.Refusal.{Refusal}
-use Rattle.grammar.specs.Reading.{Read, Reader, got, refused, pure, after, _>>=_, due, one, begins, optional, times, many}
+use Rattle.grammar.specs.Reading.{Read, Reader, got, refused, pure, after, _>>=_, due, one, begins, times, many}
 use Rattle.grammar.specs.Encoding.{concat}
 use Rattle.grammar.specs.WellFormed.{Each, Few}
 

@@ -1,6 +1,6 @@
 -- A row and its words.
 use mathlib.Core.Path.{_≡_, refl, sym, ap, _∙_, subst}
-use mathlib.Core.Bool.{Bool, true, false, cond, _&&_, not}
+use mathlib.Core.Bool.{Bool, true, false}
 use mathlib.Core.Logic.{⊎-elim}
 use mathlib.Core.List.{List, [], _∷_, _++_, append-assoc}
 use Prim.Native.Nat.{ℕ, zero, suc, _+_, _-_, _*_, _^_, _≤_, _<_}
@@ -9,18 +9,18 @@ use lib.Dec.{eqb}
 use lib.IntN.{ℤ, pos, negsuc}
 use lib.Signed.{_≤ℤ_, leZ, leZ-yes}
 use Rattle.integers.proofs.Laws.{le-trans}
-use lib.ListN.{length, length-append, replicate, take, drop, take-append-drop, length-replicate}
+use lib.ListN.{length, length-append, replicate, take, take-append-drop, length-replicate}
 use lib.Seq.{drop-at, length-take-le}
-use borrow.Author.Tests.{eqb-true, eqb-false, eq-eqb, ne-eqb}
+use borrow.Author.Tests.{eqb-true, eq-eqb, ne-eqb}
 use Rattle.integers.proofs.Tests.{leZ-true, le-leZ, and-true, not-true}
 use Rattle.words.specs.Words.{bits, kindOf, payload, word, signed, unsigned, ROW, TERM}
 use Rattle.words.proofs.Laws.{kind-word, payload-word, word-split, signed-unsigned, unsigned-signed, unsigned-lt}
 use Rattle.rows.specs.declared.Row.{Row}
-use Rattle.grammar.specs.Reading.{got, one, always, begins, optional, _>>=_, pure, after}
+use Rattle.grammar.specs.Reading.{got, one, always, begins}
 use Rattle.grammar.specs.Grammar.{term, coefficient, coefficientAllowed, beginsTerm, coef, coefs, row, rowOf, constantOf, constantAllowed}
 use Rattle.grammar.specs.Encoding.{encodeCoef, encodeCoefs, encodeRow}
 use Rattle.grammar.specs.WellFormed.{Between, Each, RowOk}
-use Rattle.grammar.proofs.ReadingLaws.{Codec, Taken, retaken, one-taken, bound, joined, one-out, one-in, OneGot, not-got, optional-got}
+use Rattle.grammar.proofs.ReadingLaws.{Codec, Taken, retaken, one-taken, bound, joined, one-out, one-in, optional-got}
 
 -- the bounds of a coefficient
 abbrev pub Coef : ℤ → Type 0

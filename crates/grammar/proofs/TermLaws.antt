@@ -1,18 +1,18 @@
 -- The coefficients of a row, TERM by TERM: a TERM may leave out variables, which then have coefficient zero.
-use mathlib.Core.Path.{_≡_, refl, sym, ap, _∙_}
-use mathlib.Core.Bool.{Bool, true, false, cond, _&&_}
+use mathlib.Core.Path.{_≡_, refl, sym, _∙_}
+use mathlib.Core.Bool.{Bool, true, false, _&&_}
 use mathlib.Core.List.{List, [], _∷_, _++_}
-use Prim.Native.Nat.{ℕ, zero, suc, _+_, _-_, _≤_, _<_}
+use Prim.Native.Nat.{ℕ, zero, suc, _+_, _-_, _<_}
 use native.Mathlib.Omega.{arith}
 use lib.Dec.{eqb, ltb, leb}
 use lib.IntN.{ℤ, pos}
 use lib.ListN.{replicate}
-use borrow.Author.Tests.{eqb-true, eqb-false, eq-eqb, ne-eqb, leb-true, leb-false, le-leb, lt-leb, ltb-true, lt-ltb}
+use borrow.Author.Tests.{eqb-true, eqb-false, leb-true, leb-false, le-leb, lt-leb, ltb-true, lt-ltb}
 use Rattle.integers.proofs.Tests.{and-true}
 use Rattle.words.specs.Words.{bits, kindOf, TERM}
 use Rattle.words.specs.declared.Refusal.the-variants.{Word, Value}
 use Rattle.grammar.specs.Reading.{Read, got, refused, due, one, begins, after, pure}
-use Rattle.grammar.specs.Grammar.{coef, coefs, coefficient, coefficientAllowed, beginsTerm}
+use Rattle.grammar.specs.Grammar.{coefs, coefficient, coefficientAllowed}
 
 -- a TERM whose variable is from v on, below top, with an allowed coefficient
 abbrev pub termAllowed : ℕ → ℕ → ℕ → Bool

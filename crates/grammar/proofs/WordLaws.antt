@@ -1,25 +1,23 @@
 -- Each word of the grammar and the value that it stands for.
 use mathlib.Core.Path.{_≡_, refl, sym, ap, _∙_, subst}
-use mathlib.Core.Bool.{Bool, true, false, cond, _&&_, not}
+use mathlib.Core.Bool.{Bool, true, false, _&&_}
 use mathlib.Core.List.{List, [], _∷_, _++_}
-use Prim.Native.Nat.{ℕ, zero, suc, _+_, _*_, _^_, _≤_, _<_, _/_, _%_}
+use Prim.Native.Nat.{ℕ, suc, _+_, _*_, _^_, _≤_}
 use native.Mathlib.Omega.{arith}
-use lib.Dec.{eqb, ltb, leb}
+use lib.Dec.{eqb, ltb}
 use lib.Bits.{bitAnd}
-use lib.IntN.{ℤ, pos, negsuc}
-use lib.Signed.{_≤ℤ_, leZ}
-use lib.ListN.{length}
+use lib.Signed.{leZ}
 use borrow.Author.Tests.{eqb-true, eq-eqb, ltb-true, lt-ltb}
-use Rattle.integers.proofs.Tests.{leZ-true, le-leZ, and-true, not-true}
-use Rattle.words.specs.Words.{bits, kindOf, payload, word, signed, unsigned, literalsOf, VAR, ROW, TERM, SETS}
+use Rattle.integers.proofs.Tests.{leZ-true, le-leZ, and-true}
+use Rattle.words.specs.Words.{bits, kindOf, payload, word, signed, unsigned, literalsOf, VAR, SETS}
 use Rattle.words.specs.declared.Literals.{Literals}
 use Rattle.words.proofs.Laws.{kind-word, payload-word, word-split, signed-unsigned, unsigned-signed, unsigned-lt, signed-between}
 use Rattle.rows.specs.declared.Range.{Range}
 use Rattle.grammar.specs.Reading.{got, one, always, begins}
 use Rattle.grammar.specs.Grammar.{rangeOf, range, combination, literalsAllowed}
 use Rattle.grammar.specs.Encoding.{encodeRange, encodeLiterals}
-use Rattle.grammar.specs.WellFormed.{Between, RangeOk, LiteralsOk}
-use Rattle.grammar.proofs.ReadingLaws.{Codec, Taken, retaken, one-taken, bound, one-out, one-in, not-got}
+use Rattle.grammar.specs.WellFormed.{RangeOk, LiteralsOk}
+use Rattle.grammar.proofs.ReadingLaws.{Codec, retaken, one-taken, bound, one-out, one-in}
 
 -- ---- VAR
 range-same : (a b : Range) → a .low ≡ b .low → a .high ≡ b .high → a ≡ b

@@ -1,8 +1,6 @@
 use mathlib.Core.Path.{_≡_, refl}
 use mathlib.Core.List.{List, [], _∷_}
 use Prim.Native.Nat.{ℕ}
-use Rattle.words.specs.declared.Refusal.the-variants.{Word, Limit, Value}
-use lib.IntN.{ℤ, pos, negsuc}
 use Rattle.grammar.specs.Reading.{Read, got, refused, due, one, times, many}
 use Rattle.grammar.specs.Grammar.{program, ranges, rows, end, coefs, row, assignment, sets, action}
 use Rattle.grammar.specs.Programs.{Program}

@@ -13,7 +13,7 @@
 -- nothing, end                   — END, and nothing after it
 -- ranges                         — 1 to 8 VAR
 -- program                        — the whole
-use mathlib.Core.Bool.{Bool, true, false, cond, _&&_, not}
+use mathlib.Core.Bool.{Bool, true, false, _&&_, not}
 use mathlib.Core.List.{List, [], _∷_, _++_}
 use Prim.Native.Nat.{ℕ, zero, suc, _-_, _^_}
 use lib.Dec.{eqb, ltb, leb}
@@ -26,7 +26,7 @@ use Rattle.words.specs.declared.Refusal.the-variants.{Word}
 use Rattle.words.specs.declared.Literals.{Literals}
 use Rattle.rows.specs.declared.Row.{Row}
 use Rattle.rows.specs.declared.Range.{Range}
-use Rattle.grammar.specs.Reading.{Read, Reader, got, refused, pure, _>>=_, one, always, begins, optional, times, many}
+use Rattle.grammar.specs.Reading.{Reader, got, refused, pure, _>>=_, one, always, begins, optional, times, many}
 use Rattle.grammar.specs.Programs.{Assignment, Action, Program}
 
 -- VAR: low end bits 27..14, high end 13..0

@@ -1,7 +1,7 @@
 -- House, worked by computation: three nodes, and ten edges that lead to a node.
 use mathlib.Core.Path.{_≡_, refl}
 use mathlib.Core.List.{List, [], _∷_, map}
-use Rattle.gather.specs.Gathering.{Claim, Entry, entryOf, gatherFrom}
+use Rattle.gather.specs.Gathering.{Claim, entryOf, gatherFrom}
 use Rattle.search.specs.Search.{To, None, Root, From, Graph, Done, linksIn, links, turns, run, explored}
 use Rattle.graph.specs.Graph.{graphOf}
 

@@ -7,7 +7,6 @@ use native.Mathlib.Omega.{arith}
 use lib.ListN.{length}
 use Rattle.grammar.specs.Programs.{Program}
 use Rattle.programs.specs.declared.Image.{Image}
-use Rattle.runs.specs.Runs.{has}
 use Rattle.lemmas.specs.Lemmas.{Lemma}
 use Rattle.lemmas.specs.Sources.{theProgram, Held}
 use Rattle.lemmas.proofs.SourceLaws.{counts}
@@ -15,7 +14,7 @@ use Rattle.gather.specs.Gathering.{Entry}
 use Rattle.search.specs.Search.{Graph, Done, count, links}
 use Rattle.search.proofs.Theorem.{Whole, whole}
 use Rattle.records.specs.Records.{mostNodes, graphList}
-use Rattle.abstraction.specs.Abstraction.{start, answer, graph}
+use Rattle.abstraction.specs.Abstraction.{start, answer}
 use Rattle.abstraction.proofs.ClaimLaws.{applies-is}
 use Rattle.verdict.specs.Verdicts.{Finding, Forbid, RunOff, stepsTo}
 use Rattle.verdict.specs.Working.{Traced, askedEnds, foundOf}

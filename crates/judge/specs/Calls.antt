@@ -10,7 +10,7 @@
 -- SafeOf    — demand 3, of the program that the words are
 -- WalksTo, WalksIn, WalksOf — the path to the first finding is a walk in the graph from node 0 to its node
 use mathlib.Core.Path.{_≡_}
-use mathlib.Core.Bool.{Bool, cond}
+use mathlib.Core.Bool.{cond}
 use mathlib.Core.List.{List, [], _∷_}
 use Prim.Native.Nat.{ℕ}
 use lib.Dec.{ltb}

@@ -8,7 +8,7 @@ ghost use Rattle.lemmas.specs.Lemmas.{Lemma};
 ghost use Rattle.lemmas.specs.Sources.{theProgram, Held};
 ghost use Rattle.gather.specs.Gathering.{entries};
 ghost use Rattle.search.specs.Search.{Graph};
-ghost use Rattle.records.specs.Records.{mostNodes, graphWords};
+ghost use Rattle.records.specs.Records.{graphWords};
 ghost use Rattle.tables.specs.Tabled.{theLemmas, Begun};
 ghost use Rattle.verdict.specs.Verdicts.{findings, pathWords, pathList};
 ghost use Rattle.verdict.specs.Working.{foundOf, Within};

@@ -21,7 +21,7 @@ use Rattle.words.specs.declared.Literals.{Literals}
 use Rattle.rows.specs.declared.Row.{Row}
 use Rattle.rows.specs.declared.Range.{Range}
 use Rattle.rows.specs.Rows.{negated, largestValue, zeroRange}
-use Rattle.grammar.specs.Programs.{Action, Program}
+use Rattle.grammar.specs.Programs.{Program}
 use Rattle.actions.specs.Results.{keepRows, assigned}
 use Rattle.runs.specs.Runs.{actionOf, literalRows}
 use Rattle.sums.specs.Sums.{combine, constRow, afterwards}

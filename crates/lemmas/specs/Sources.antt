@@ -10,8 +10,8 @@
 -- lemmasFrom             — where lemmas begin, put behind those that are stored
 -- listed                 — where each lemma of a list begins, or the refusal
 use mathlib.Core.Path.{_≡_}
-use mathlib.Core.Bool.{Bool, true, false, cond, _&&_, _||_, not}
-use mathlib.Core.List.{List, [], _∷_}
+use mathlib.Core.Bool.{Bool, false, cond, _&&_, _||_, not}
+use mathlib.Core.List.{List, []}
 use Prim.Native.Nat.{ℕ, zero, suc, _+_}
 use lib.Dec.{eqb, ltb}
 use lib.ListN.{length, getD, replicate}

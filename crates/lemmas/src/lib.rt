@@ -1,8 +1,8 @@
 // Lemmas: reading a list of them over a program that has been read.
 ghost use mathlib.Core.Path.{_≡_};
-ghost use Prim.Native.Nat.{_+_, _<_, _≤_, _^_};
+ghost use Prim.Native.Nat.{_+_, _<_, _≤_};
 ghost use lib.ListN.{length, drop, getD, replicate};
-ghost use Rattle.words.specs.Words.{bits, payload, LEMMA};
+ghost use Rattle.words.specs.Words.{bits, LEMMA};
 ghost use Rattle.grammar.specs.Reading.{times, many, refused};
 ghost use mathlib.Core.Bool.{false, _||_};
 ghost use lib.Dec.{eqb, ltb};

@@ -8,14 +8,14 @@ use native.Mathlib.Nat.{zero-add}
 use lib.Dec.{eqb}
 use lib.ListN.{length, drop, replicate}
 use lib.Seq.{sets}
-use Rattle.words.specs.Words.{noLiterals, TERM, INIT, PRED, ACTION, SETS}
+use Rattle.words.specs.Words.{noLiterals, TERM, ACTION, SETS}
 use Rattle.words.specs.declared.Refusal.{Refusal}
 use Rattle.words.specs.declared.Literals.{Literals}
 use Rattle.rows.specs.declared.Range.{Range}
 use Rattle.rows.specs.declared.Row.{Row}
-use Rattle.grammar.specs.Reading.{Read, got, refused, after, many}
+use Rattle.grammar.specs.Reading.{Read, got, refused, many}
 use Rattle.grammar.specs.Programs.{Action}
-use Rattle.grammar.specs.Grammar.{ranges, rows, action, combination, end, program}
+use Rattle.grammar.specs.Grammar.{ranges, rows, action, combination, end}
 use Rattle.grammar.specs.Encoding.{concat, encodeRange, encodeRows, encodeAction}
 use Rattle.grammar.proofs.ReadingLaws.{many-out}
 use Rattle.grammar.proofs.WordLaws.{literals-codec, literals-full}

@@ -12,7 +12,6 @@
 -- Rest, rest, imageWith, restLoaded     — what follows the predicates, and the image with it
 use mathlib.Core.List.{List, [], _∷_, _++_}
 use Prim.Native.Nat.{ℕ, _+_}
-use lib.IntN.{ℤ, pos}
 use lib.ListN.{length, replicate}
 use lib.Seq.{sets}
 use Rattle.words.specs.Words.{noLiterals, INIT, PRED, ACTION, SETS}

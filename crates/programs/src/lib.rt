@@ -1,11 +1,10 @@
 // Programs: the reader of all parts, Check and Action part.
 ghost use mathlib.Core.Path.{_≡_};
-ghost use mathlib.Core.Bool.{_&&_};
-ghost use Prim.Native.Nat.{_+_, _-_, _<_, _≤_, _^_};
-ghost use lib.ListN.{length, take, drop, getD, replicate};
-ghost use Rattle.words.specs.Words.{literalsOf, noLiterals, VAR, ACTION, SETS};
+ghost use Prim.Native.Nat.{_+_, _-_, _<_, _≤_};
+ghost use lib.ListN.{length, take, drop, replicate};
+ghost use Rattle.words.specs.Words.{noLiterals, VAR, ACTION, SETS};
 ghost use Rattle.grammar.specs.Reading.{many, refused};
-ghost use Rattle.grammar.specs.Grammar.{rangeOf, range, ranges, rows, action, combination, literalsAllowed, end};
+ghost use Rattle.grammar.specs.Grammar.{ranges, rows, action, combination, literalsAllowed, end};
 ghost use Rattle.reader.specs.Results.{nextOf};
 ghost use Rattle.programs.specs.Calls.{read, check, actionPart, PartOf, partPlace};
 ghost use Rattle.programs.specs.Images.{noRanges, rangesFrom, zeroRanges, countedRead, noActions, actionsFrom, noForbidden, forbiddenFrom, loaded, placeOf, rest, restLoaded};

@@ -1,18 +1,17 @@
 -- A row from its first word, and rows one after the other.
 use mathlib.Core.Path.{_≡_, refl, sym, ap, _∙_}
-use mathlib.Core.List.{List, [], _∷_, _++_}
-use Prim.Native.Nat.{ℕ, zero, suc, _+_, _-_, _≤_, _<_}
+use mathlib.Core.List.{List, _∷_}
+use Prim.Native.Nat.{ℕ, suc, _+_, _-_, _≤_, _<_}
 use native.Mathlib.Omega.{arith}
 use native.Mathlib.Numerals.{add-one}
-use native.Mathlib.Nat.{sub-zero, sub-self}
-use lib.ListN.{length, getD, set, drop, length-set, length-append, length-drop}
+use native.Mathlib.Nat.{sub-zero}
+use lib.ListN.{length, set, drop, length-set, length-append, length-drop}
 use lib.Seq.{sets, drop-append-seam, drop-drop}
 use Rattle.words.specs.Words.{ROW}
 use Rattle.words.specs.declared.Refusal.{Refusal}
 use Rattle.rows.specs.declared.Row.{Row}
 use Rattle.grammar.specs.Reading.{Read, got, refused, one, always, after, pure, times}
 use Rattle.grammar.specs.Grammar.{coefs, row, rowOf, constantOf, constantAllowed}
-use Rattle.grammar.specs.Encoding.{encodeRow}
 use Rattle.grammar.proofs.ReadingLaws.{Taken}
 use Rattle.grammar.proofs.RowLaws.{row-codec}
 use Rattle.reader.specs.declared.Next.{Next}

@@ -1,28 +1,25 @@
 -- The loop over a row's TERMs.
-use mathlib.Core.Path.{_≡_, refl, sym, ap, _∙_, subst}
+use mathlib.Core.Path.{_≡_, refl, sym, ap, _∙_}
 use mathlib.Core.Bool.{Bool, true, false}
-use mathlib.Core.List.{List, [], _∷_, _++_}
+use mathlib.Core.List.{List, _∷_, _++_}
 use Prim.Native.Nat.{ℕ, zero, suc, _+_, _-_, _≤_, _<_}
 use native.Mathlib.Omega.{arith}
 use native.Mathlib.Numerals.{add-one}
 use native.Mathlib.Nat.{sub-zero, zero-add}
-use native.Mathlib.Decide.{ℕ-discrete}
 use lib.Dec.{eqb}
 use lib.IntN.{ℤ, pos}
-use lib.ListN.{length, getD, set, take, drop, replicate, length-set, length-replicate}
+use lib.ListN.{length, getD, set, drop, replicate, length-set}
 use lib.Seq.{drop-cons, sets, sets-eq, set-getD, getD-set-other}
-use borrow.Author.Tests.{eqb-true, leb-true, ltb-true}
+use borrow.Author.Tests.{leb-true, ltb-true}
 use Rattle.integers.proofs.Tests.{and-true}
 use Rattle.words.specs.Words.{bits, kindOf, TERM}
 use Rattle.words.specs.declared.Refusal.{Refusal}
-use Rattle.rows.specs.declared.Row.{Row}
-use Rattle.grammar.specs.Reading.{Read, got, refused, due, one, begins, after, pure}
+use Rattle.grammar.specs.Reading.{Read, got, refused, one, begins, after, pure}
 use Rattle.grammar.specs.Grammar.{coefs, coefficient, rowOf}
 use Rattle.grammar.proofs.TermLaws.{termAllowed, no-terms, unnamed-term, refused-term, taken-term}
 use Rattle.grammar.proofs.RowLaws.{coefs-out}
 use Rattle.reader.specs.declared.Next.{Next}
 use Rattle.reader.specs.declared.Next.the-variants.{At, Refused}
-use Rattle.reader.specs.declared.RowRead.{RowRead}
 use Rattle.reader.specs.Results.{nextOf, rowRead}
 use Rattle.reader.proofs.Laws.{next-yes, dueNext}
 

@@ -8,10 +8,9 @@
 -- rowsRead — rows from place 0 on
 use mathlib.Core.List.{List}
 use Prim.Native.Nat.{ℕ}
-use lib.IntN.{ℤ, pos}
+use lib.IntN.{pos}
 use lib.ListN.{replicate}
 use lib.Seq.{sets}
-use Rattle.words.specs.declared.Refusal.{Refusal}
 use Rattle.rows.specs.declared.Row.{Row}
 use Rattle.grammar.specs.Reading.{Read, got, refused}
 use Rattle.reader.specs.declared.Next.{Next}

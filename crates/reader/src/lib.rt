@@ -1,13 +1,12 @@
 // Reading words and rows.
 ghost use mathlib.Core.Path.{_≡_};
-ghost use mathlib.Core.Bool.{_&&_, not};
+ghost use mathlib.Core.Bool.{not};
 ghost use Prim.Native.Nat.{_+_, _<_, _≤_, _^_};
 ghost use lib.ListN.{length, drop, getD};
-ghost use lib.IntN.{pos};
 ghost use Rattle.grammar.specs.Reading.{one, begins, times, refused, after, pure};
 ghost use Rattle.grammar.specs.Grammar.{row, rowOf, coefs, between, coefficientAllowed, constantAllowed};
 ghost use Rattle.grammar.proofs.TermLaws.{termAllowed};
-ghost use Rattle.reader.specs.Results.{nextOf, rowRead, rowsRead, rowsFrom, zeroRow};
+ghost use Rattle.reader.specs.Results.{nextOf, rowRead, rowsRead};
 use rows::Row;
 use words::Kind;
 use words::Refusal;

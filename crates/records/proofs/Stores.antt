@@ -11,7 +11,7 @@ use native.Mathlib.Numerals.{add-one}
 use borrow.Author.Tests.{lt-ltb, le-ltb}
 use lib.ListN.{length, drop, set, length-append, length-set, List·getD-append}
 use lib.Seq.{getD-set-same, getD-set-other, drop-set-lt, drop-drop, getD-at}
-use Rattle.search.specs.Search.{Answer, To, None, Origin, Graph, count, linksIn, edge, seek, stored, linked, answered}
+use Rattle.search.specs.Search.{Answer, To, None, Origin, Graph, count, linksIn, seek, stored, linked, answered}
 use Rattle.search.proofs.Count.{same-place, lt-or-le}
 use Rattle.records.specs.Records.{originWord, edgeWord, mostNodes, graphWords, header, stride, recordPlace, edgePlace}
 use Rattle.records.specs.declared.Explored.the-variants.{Whole, Full}

@@ -10,7 +10,7 @@
 -- exploredOf             — what a search answers: the number of nodes and of edges that lead to a node, or that there are too many nodes
 use Prim.Native.Nat.{ℕ, zero, suc, _+_, _*_, _-_, _^_}
 use mathlib.Core.List.{List, [], _∷_, _++_}
-use lib.ListN.{drop, getD, replicate}
+use lib.ListN.{drop, replicate}
 use Rattle.words.specs.Words.{word}
 use Rattle.search.specs.Search.{Answer, To, None, Origin, Root, From, Graph, Result, Done, Over, count, links, nodeWord, origin, edge}
 use Rattle.records.specs.declared.Explored.{Explored}

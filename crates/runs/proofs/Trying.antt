@@ -21,7 +21,6 @@ use Rattle.rows.specs.Bounds.{small, maxState, SmallRange, smallRanges}
 use Rattle.grammar.specs.Programs.{Assignment}
 use Rattle.grammar.specs.WellFormed.{Each}
 use Rattle.runs.specs.Runs.{within, lowestOff, allHold, put}
-use Rattle.runs.specs.Values.{padded}
 
 -- ---- values on their ranges
 pub first-on : (b : Bool) {n m : ℕ} → suc n ≤ cond b (suc m) 0 → (b ≡ true) × (n ≤ m)

@@ -1,7 +1,6 @@
 -- That the definitions say something: Fade and House have start states, two steps are a run, and the safety statement is false of a logic
 -- that takes 10 off a level of 5.
 use mathlib.Core.Path.{_≡_, refl}
-use mathlib.Core.Bool.{false}
 use mathlib.Core.List.{[], _∷_}
 use Prim.Native.Nat.{ℕ}
 use native.Mathlib.Omega.{arith}

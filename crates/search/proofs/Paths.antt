@@ -3,7 +3,7 @@ use Prim.Native.Nat.{ℕ, zero, suc, _<_, _≤_}
 use native.Mathlib.Omega.{arith}
 use mathlib.Core.Path.{_≡_, refl, sym, ap, _∙_}
 use mathlib.Core.List.{List, [], _∷_, _++_, reverse, reverse-cons}
-use Rattle.search.specs.Search.{Answer, To, None, Origin, Root, From, Graph, count, nodeWord, origin, edge, numbered}
+use Rattle.search.specs.Search.{Answer, To, None, Origin, Root, From, Graph, count, origin, edge, numbered}
 use Rattle.search.specs.Paths.{along, hop, back, path}
 use Rattle.search.proofs.Reach.{Walk, stand, step}
 use Rattle.search.proofs.Sound.{Comes}

@@ -1,7 +1,7 @@
 -- Laws of words, fields and two's complement.
-use mathlib.Core.Path.{_≡_, refl, sym, ap, _∙_}
+use mathlib.Core.Path.{_≡_, refl, ap, _∙_}
 use mathlib.Core.Bool.{Bool, true, false}
-use Prim.Native.Nat.{ℕ, zero, suc, _+_, _-_, _*_, _/_, _%_, _^_, _<_, _≤_}
+use Prim.Native.Nat.{ℕ, suc, _+_, _-_, _^_, _<_, _≤_}
 use native.Mathlib.Omega.{arith}
 use lib.Pow.{pow-pos}
 use lib.Dec.{ltb}
@@ -9,7 +9,7 @@ use lib.IntN.{ℤ, pos, negsuc, _-ℤ_}
 use lib.Signed.{_≤ℤ_}
 use borrow.Author.Tests.{ltb-true, ltb-false, lt-ltb, le-ltb}
 use Rattle.integers.proofs.Int.{var, num, _⊕_, ⊖, up, dn, le-in, le-out, equal}
-use Rattle.words.specs.Words.{bits, kindOf, payload, word, signedBy, signed, unsigned}
+use Rattle.words.specs.Words.{kindOf, payload, word, signed, unsigned}
 
 pub kind-word : (k p : ℕ) → p < 2 ^ 28 → kindOf (word k p) ≡ k
 kind-word k p h = omega arith

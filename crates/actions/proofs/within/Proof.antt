@@ -1,6 +1,5 @@
 use mathlib.Core.Path.{refl}
 use borrow.Author.Tests.{le-leb, lt-leb}
-use borrow.Author.Needs.{needs}
 use Rattle.actions.proofs.within.Statement.{statement}
 use Rattle.actions.proofs.within.Tie as tie
 

@@ -1,15 +1,10 @@
-use mathlib.Core.Path.{_≡_, sym, ap, _∙_}
+use mathlib.Core.Path.{sym, ap, _∙_}
 use mathlib.Core.List.{List}
 use Prim.Native.Nat.{ℕ}
 use native.Mathlib.Omega.{arith}
-use Rattle.lemmas.specs.Lemmas.{Lemma}
 use Rattle.lemmas.specs.Sources.{theProgram}
-use Rattle.gather.specs.Gathering.{entries}
-use Rattle.search.specs.Search.{Graph}
 use Rattle.verdict.specs.Verdicts.{findings, pathList}
-use Rattle.verdict.specs.Working.{foundOf}
-use Rattle.judge.specs.Ready.{Ready}
-use Rattle.judge.proofs.Judging.{found-nothing, found-forbid, found-off, nodes-few, traced-here, listed-as, judging, image-few}
+use Rattle.judge.proofs.Judging.{found-nothing, found-forbid, found-off, nodes-few, traced-here, listed-as, image-few}
 use borrow.Author.Needs.{needs}
 use Rattle.judge.proofs.judge_graph.Statement.{statement}
 use Rattle.judge.proofs.judge_graph.Tie as tie

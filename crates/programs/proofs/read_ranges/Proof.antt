@@ -10,14 +10,14 @@ use Rattle.grammar.specs.Grammar.{rangeOf, ranges}
 use Rattle.grammar.proofs.WordLaws.{ordered}
 use Rattle.reader.specs.Results.{nextOf}
 use Rattle.programs.proofs.Items.{no-range, some-ranges, ranges-ended, ranges-stopped, range-turned}
-use mathlib.Core.Path.{_≡_, refl, sym, ap, _∙_}
-use mathlib.Core.Bool.{true, false}
+use mathlib.Core.Path.{_≡_, refl, sym, _∙_}
+use mathlib.Core.Bool.{true}
 use Prim.Native.Nat.{_-_}
 use native.Mathlib.Omega.{arith}
 use Rattle.words.specs.Words.{VAR}
 use Rattle.grammar.specs.Grammar.{range}
 use Rattle.programs.specs.Images.{rangesFrom, zeroRanges}
-use Rattle.programs.proofs.ManyLaws.{Loop, begun, stopped, ended, turned}
+use Rattle.programs.proofs.ManyLaws.{Loop, begun}
 use borrow.Author.Needs.{needs}
 use Rattle.programs.proofs.read_ranges.Statement.{statement}
 use Rattle.programs.proofs.read_ranges.Tie as tie

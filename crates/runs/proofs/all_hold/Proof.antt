@@ -4,12 +4,12 @@ use mir.Facts.{toZ-ofZ}
 use Rattle.rows.specs.Rows.{rowValue}
 use Rattle.rows.specs.Bounds.{noRow}
 use Rattle.runs.proofs.Loops.{below-fails, above-holds}
-use mathlib.Core.Path.{_≡_, refl, sym, ap, _∙_}
-use Prim.Native.Nat.{_+_, _-_, _<_, _≤_}
+use mathlib.Core.Path.{_≡_, refl, _∙_}
+use Prim.Native.Nat.{_-_, _<_, _≤_}
 use native.Mathlib.Omega.{arith}
 use lib.ListN.{length, take, drop, getD}
 use lib.Seq.{length-take-le, getD-take}
-use Rattle.runs.specs.Runs.{allHold, holds}
+use Rattle.runs.specs.Runs.{allHold}
 use Rattle.runs.proofs.Loops.{all-on, all-stop, all-end}
 use borrow.Author.Needs.{needs}
 use Rattle.runs.proofs.all_hold.Statement.{statement}

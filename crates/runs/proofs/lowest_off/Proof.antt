@@ -4,7 +4,7 @@ use mir.Facts.{toZ-ofZ}
 use lib.IntN.{pos}
 use native.Mathlib.Nat.{zero-add}
 use Rattle.rows.specs.Rows.{zeroRange}
-use mathlib.Core.Path.{_≡_, refl, sym, ap, _∙_}
+use mathlib.Core.Path.{_≡_, refl, sym, _∙_}
 use Prim.Native.Nat.{_+_, _-_, _<_, _≤_}
 use native.Mathlib.Omega.{arith}
 use lib.ListN.{length, take, drop, getD}

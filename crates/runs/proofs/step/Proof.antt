@@ -4,7 +4,7 @@ use Rattle.programs.specs.Calls.{actionPart}
 use Rattle.programs.proofs.Answers.{Found}
 use Rattle.runs.specs.Runs.{lowestOff}
 use Rattle.runs.specs.Values.{padded}
-use mathlib.Core.Path.{_≡_, refl, sym, ap, _∙_}
+use mathlib.Core.Path.{_≡_, ap, _∙_}
 use native.Mathlib.Omega.{arith}
 use Rattle.programs.specs.Calls.{read}
 use Rattle.programs.proofs.Answers.{found}

@@ -1,6 +1,5 @@
 use mathlib.Core.Path.{_∙_}
 use mir.Facts.{toZ-ofZ, sfits-widen}
-use borrow.Author.Needs.{needs}
 use Rattle.runs.proofs.wide.Statement.{statement}
 use Rattle.runs.proofs.wide.Tie as tie
 

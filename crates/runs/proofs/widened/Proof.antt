@@ -1,10 +1,10 @@
 use mir.Val.{toZ, ofZ}
-use mathlib.Core.Path.{_≡_, refl, sym, ap, _∙_}
-use Prim.Native.Nat.{_+_, _-_, _<_, _≤_}
+use mathlib.Core.Path.{_≡_, refl, _∙_}
+use Prim.Native.Nat.{_+_, _-_, _≤_}
 use native.Mathlib.Omega.{arith}
 use mathlib.Core.List.{_++_}
 use lib.IntN.{pos}
-use lib.ListN.{length, take, getD, set, replicate}
+use lib.ListN.{length, take, getD, replicate}
 use lib.Seq.{take-length}
 use mir.Syntax.{w32, w64}
 use mir.Val.{SFits}
