@@ -252,7 +252,7 @@ fn no_lemma(why: Refusal) -> LemmaRead
     }
 }
 
-// The lemma at an index, by the shape of its source. `room` says whether the list may have one more.
+// The lemma at an index, by the shape of its source. `room` says whether the list may have one more. The words stand for the program in the contract.
 fn read_lemma(
     words: &[u32],
     image: Image,
