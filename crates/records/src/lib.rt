@@ -6,6 +6,7 @@ ghost use lib.ListN.{length, drop, getD, set, replicate};
 ghost use Rattle.search.specs.Search.{To, None, Root, From, seek, answered};
 ghost use Rattle.records.specs.Records.{edgeWord, originWord, mostNodes, graphWords, stride, recordPlace, edgePlace};
 ghost use Rattle.records.specs.Steps.{column, slots, Firsts, Turned};
+use words::Kind;
 
 // What a search answers.
 pub enum Explored {
@@ -45,7 +46,8 @@ fn edge_word(m: usize) -> u32
     requires { ⌜ m < mostNodes ⌝ }
     ensures { λ r. ⌜ r ≡ edgeWord (To m) ⌝ }
 {
-    0xC000_0000 + m as u32
+    let kind = Kind::EDGE;
+    kind.0 * 268435456 + m as u32
 }
 
 // The word of a node's origin: node k, by action j.
@@ -53,7 +55,8 @@ fn origin_word(k: usize, j: usize) -> u32
     requires { ⌜ (k < mostNodes) × (j < 16) ⌝ }
     ensures { λ r. ⌜ r ≡ originWord (From k j) ⌝ }
 {
-    0xB000_0000 + (k as u32 * 16 + j as u32)
+    let kind = Kind::ORIGIN;
+    kind.0 * 268435456 + (k as u32 * 16 + j as u32)
 }
 
 // The first n words become zero.
