@@ -100,12 +100,14 @@ returns-2 c =
 
 returns-3 : tie.Need-returns-3
 returns-3 c =
-    let s = c .before .before .before .before .before .before .before .before .before .before .before .before .before .before .before .args in
-    let t = taken (c .before .before .before .before .before .before .before) in
-    let g : c .before .before .before .before .before .before .before .before .before .before .before .before .guards .result ≡ bits 7 4 (getD (s .words .now) (s .at) 0) = guards-are (c .before .before .before .before .before .before .before .before .before .before .before .before) in
-    let n : c .before .before .before .before .before .before .before .before .before .before .before .assignments .result ≡ bits 3 0 (getD (s .words .now) (s .at) 0) = c .before .before .before .before .before .before .before .before .before .before .before .assignments .ensures ∙ rw (c .before .before .before .before .before .before .before .before .before .before .before .before .before .word-at .ensures) refl in
+    let q = c .before .before .before .before in
+    let l = q .before .before .before .before .before .before .before in
+    let s = l .before .before .before .before .args in
+    let t = taken (q .before .before .before) in
+    let g : l .before .guards .result ≡ bits 7 4 (getD (s .words .now) (s .at) 0) = guards-are (l .before) in
+    let n : l .assignments .result ≡ bits 3 0 (getD (s .words .now) (s .at) 0) = l .assignments .ensures ∙ rw (l .before .before .word-at .ensures) refl in
     let y = rw n at (c .before .read-sets .ensures) in
-    c .with-sets .ensures ∙ rw g (action-taken (s .vars) (c .before .before .before .before .before .before .before .before .before .before .before .before .before .before .before .pre .0) (s .room) (s .words .now) (s .at) (s .at + 1) _ _ (t .0) (t .1) (rows-are (c .before .before .before .before .before .before)) (c .before .before .before .before .after2 .given .1) y)
+    c .with-sets .ensures ∙ rw g (action-taken (s .vars) (l .before .before .before .before .pre .0) (s .room) (s .words .now) (s .at) (s .at + 1) _ _ (t .0) (t .1) (rows-are (q .before .before)) (q .after2 .given .1) y)
 
 pub read-action-spec : {M : Type 1} → statement M
 read-action-spec =

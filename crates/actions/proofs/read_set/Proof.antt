@@ -76,10 +76,11 @@ returns-2 c =
 
 returns-3 : tie.Need-returns-3
 returns-3 c =
-    let s = c .before .before .before .before .before .before .before .before .before .before .before .before .args in
+    let q = c .before .before .before .before .before .before .before .before .before in
+    let s = q .before .before .before .args in
     let e = taken (c .before .before .before .before .before) .1 in
     let (us, f) = row-read-at _ (c .before .before .before .before .row-at .ensures) (c .before .before .after2 .given .1) in
-    rw (c .before .before .before .before .before .before .before .before .before .count .ensures, c .before .before .before .before .before .before .before .before .before .before .word-at .ensures, set-taken (s .vars) (s .low) (drop (s .at) (s .words .now)) (s .at) e f) refl
+    rw (q .count .ensures, q .before .word-at .ensures, set-taken (s .vars) (s .low) (drop (s .at) (s .words .now)) (s .at) e f) refl
 
 pub read-set-spec : {M : Type 1} → statement M
 read-set-spec =

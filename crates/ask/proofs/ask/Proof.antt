@@ -12,8 +12,10 @@ known c = program-read (c .before .before .before .before .before .args .words .
 
 listed-is : (c : tie.After-enum-told2) → let k = known (c .before .before .before .before) in
     Lemmas-read (c .before .before .before .before .before .before .before .before .before .args .words .now) (theProgram (c .before .before .before .before .before .before .before .before .before .args .words .now)) (k .is) (k .held .accepted .good) (c .before .before .before .before .before .before .before .before .before .args .lemmas .now) (c .before .before .list .ensures) (c .before .before .before .before .before .before .before .before .before .args .k)
-listed-is c = let k = known (c .before .before .before .before) in
-    lemmas-read (c .before .before .before .before .before .before .before .before .before .args .words .now) (theProgram (c .before .before .before .before .before .before .before .before .before .args .words .now)) (k .is) (k .held .accepted .good) (c .before .before .before .before .before .before .before .before .before .args .lemmas .now) (c .before .before .list .ensures) (c .before .before .before .before .before .before .before .before .before .args .k) (c .enum-told2 .given .1)
+listed-is c =
+    let f = c .before .before .before .before .before .before .before .before .before in
+    let k = known (c .before .before .before .before) in
+    lemmas-read (f .args .words .now) (theProgram (f .args .words .now)) (k .is) (k .held .accepted .good) (f .args .lemmas .now) (c .before .before .list .ensures) (f .args .k) (c .enum-told2 .given .1)
 
 load-requires : tie.Need-load-requires
 load-requires c κs = search needs
@@ -22,7 +24,9 @@ enum-known-status : tie.Need-enum-known-status
 enum-known-status c = search needs
 
 returns : tie.Need-returns
-returns c = program-refused (c .before .before .before .before .before .before .args .words .now) (c .before .before .before .load .ensures) (c .before .before .before .before .before .before .args .lemmas .now) (c .before .before .before .before .before .before .args .k) (c .before .status .given .1)
+returns c =
+    let f = c .before .before .before .before .before .before in
+    program-refused (f .args .words .now) (c .before .before .before .load .ensures) (f .args .lemmas .now) (f .args .k) (c .before .status .given .1)
 
 enum-told : tie.Need-enum-told
 enum-told c = search needs
@@ -34,28 +38,41 @@ enum-known-status-2 : tie.Need-enum-known-status-2
 enum-known-status-2 c = search needs
 
 returns-2 : tie.Need-returns-2
-returns-2 c = let k = known (c .before .before .before .before .before) in list-refused (c .before .before .before .before .before .before .before .before .before .before .args .words .now) (theProgram (c .before .before .before .before .before .before .before .before .before .before .args .words .now)) (k .is) (k .held .accepted .good) (c .before .before .before .before .before .before .before .before .before .before .args .lemmas .now) (c .before .before .before .list .ensures) (c .before .before .before .before .before .before .before .before .before .before .args .k) (c .before .status2 .given .1)
+returns-2 c =
+    let f = c .before .before .before .before .before .before .before .before .before .before in
+    let k = known (c .before .before .before .before .before) in list-refused (f .args .words .now) (theProgram (f .args .words .now)) (k .is) (k .held .accepted .good) (f .args .lemmas .now) (c .before .before .before .list .ensures) (f .args .k) (c .before .status2 .given .1)
 
 enum-told-2 : tie.Need-enum-told-2
 enum-told-2 c = search needs
 
 returns-3 : tie.Need-returns-3
-returns-3 c = let k = known (c .before .before .before .before .before) in no-lemma (c .before .before .before .before .before .before .before .before .before .before .args .words .now) (theProgram (c .before .before .before .before .before .before .before .before .before .before .args .words .now)) (k .is) (k .held .accepted .good) (c .before .before .before .before .before .before .before .before .before .before .args .lemmas .now) (c .before .before .before .list .ensures) (c .before .before .before .before .before .before .before .before .before .before .args .k) (listed-is (c .before)) (c .if1 .taken)
+returns-3 c =
+    let f = c .before .before .before .before .before .before .before .before .before .before in
+    let k = known (c .before .before .before .before .before) in no-lemma (f .args .words .now) (theProgram (f .args .words .now)) (k .is) (k .held .accepted .good) (f .args .lemmas .now) (c .before .before .before .list .ensures) (f .args .k) (listed-is (c .before)) (c .if1 .taken)
 
 mul-at : tie.Need-mul-at
-mul-at c = let k = known (c .before .before .before .before .before) in let w = place-few (c .before .before .before .before .before .before .before .before .before .before .args .words .now) (theProgram (c .before .before .before .before .before .before .before .before .before .before .args .words .now)) (k .is) (k .held .accepted .good) (c .before .before .before .before .before .before .before .before .before .before .args .lemmas .now) (c .before .before .before .list .ensures) (c .before .before .before .before .before .before .before .before .before .before .args .k) (listed-is (c .before)) (c .if1 .left) in omega arith
+mul-at c =
+    let f = c .before .before .before .before .before .before .before .before .before .before in
+    let k = known (c .before .before .before .before .before) in let w = place-few (f .args .words .now) (theProgram (f .args .words .now)) (k .is) (k .held .accepted .good) (f .args .lemmas .now) (c .before .before .before .list .ensures) (f .args .k) (listed-is (c .before)) (c .if1 .left) in omega arith
 
 element-copy-out-at : tie.Need-element-copy-out-at
-element-copy-out-at c = let k = known (c .before .before .before .before .before) in place-few (c .before .before .before .before .before .before .before .before .before .before .args .words .now) (theProgram (c .before .before .before .before .before .before .before .before .before .before .args .words .now)) (k .is) (k .held .accepted .good) (c .before .before .before .before .before .before .before .before .before .before .args .lemmas .now) (c .before .before .before .list .ensures) (c .before .before .before .before .before .before .before .before .before .before .args .k) (listed-is (c .before)) (c .if1 .left)
+element-copy-out-at c =
+    let f = c .before .before .before .before .before .before .before .before .before .before in
+    let k = known (c .before .before .before .before .before) in place-few (f .args .words .now) (theProgram (f .args .words .now)) (k .is) (k .held .accepted .good) (f .args .lemmas .now) (c .before .before .before .list .ensures) (f .args .k) (listed-is (c .before)) (c .if1 .left)
 
 weigh-one-requires : tie.Need-weigh-one-requires
-weigh-one-requires c κs = let k = known (c .before .before .before .before .before .before) in (k .held, is-lemma (c .before .before .before .before .before .before .before .before .before .before .before .args .words .now) (theProgram (c .before .before .before .before .before .before .before .before .before .before .before .args .words .now)) (k .is) (k .held .accepted .good) (c .before .before .before .before .before .before .before .before .before .before .before .args .lemmas .now) (c .before .before .before .before .list .ensures) (c .before .before .before .before .before .before .before .before .before .before .before .args .k) (listed-is (c .before .before)) (c .before .if1 .left))
+weigh-one-requires c κs =
+    let f = c .before .before .before .before .before .before .before .before .before .before .before in
+    let k = known (c .before .before .before .before .before .before) in (k .held, is-lemma (f .args .words .now) (theProgram (f .args .words .now)) (k .is) (k .held .accepted .good) (f .args .lemmas .now) (c .before .before .before .before .list .ensures) (f .args .k) (listed-is (c .before .before)) (c .before .if1 .left))
 
 answer-requires : tie.Need-answer-requires
 answer-requires c κs = search needs
 
 returns-4 : tie.Need-returns-4
-returns-4 c = let k = known (c .before .before .before .before .before .before .before .before) in answered (c .before .before .before .before .before .before .before .before .before .before .before .before .before .args .words .now) (theProgram (c .before .before .before .before .before .before .before .before .before .before .before .before .before .args .words .now)) (k .is) (k .held .accepted .good) (c .before .before .before .before .before .before .before .before .before .before .before .before .before .args .lemmas .now) (c .before .before .before .before .before .before .list .ensures) (c .before .before .before .before .before .before .before .before .before .before .before .before .before .args .k) (listed-is (c .before .before .before .before)) (c .before .before .before .if1 .left) (c .answer .ensures ∙ ap (weighed (c .before .before .before .before .before .before .before .before .before .before .before .before .before .args .k)) (c .before .weigh-one .ensures))
+returns-4 c =
+    let q = c .before .before .before in
+    let f = q .before .before .before .before .before .before .before .before .before .before in
+    let k = known (q .before .before .before .before .before) in answered (f .args .words .now) (theProgram (f .args .words .now)) (k .is) (k .held .accepted .good) (f .args .lemmas .now) (q .before .before .before .list .ensures) (f .args .k) (listed-is (q .before)) (q .if1 .left) (c .answer .ensures ∙ ap (weighed (f .args .k)) (c .before .weigh-one .ensures))
 
 pub ask-spec : {M : Type 1} → statement M
 ask-spec =

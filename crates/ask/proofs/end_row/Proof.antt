@@ -19,10 +19,12 @@ less-requires : tie.Need-less-requires
 less-requires c κs = let f : SFits w64 (c .before .before .args .range .low) = search needs in rw (toZ-ofZ f) (low-fits (c .before .before .pre .1))
 
 returns : tie.Need-returns
-returns c = let f : SFits w64 (c .before .before .before .args .range .low) = search needs in
+returns c =
+    let q = c .before .before .before in
+    let f : SFits w64 (q .args .range .low) = search needs in
     let g : SFits w64 (c .less .result) = search needs in
-    let e : toZ w64 (ofZ w64 (c .less .result)) ≡ negℤ (c .before .before .before .args .range .low) = toZ-ofZ g ∙ rw (toZ-ofZ f) at (c .less .ensures) ∙ +ℤ-idl (negℤ (c .before .before .before .args .range .low)) in
-    rw (e, c .before .before .if1 .taken) (refl, end-single (c .before .before .before .args .range) true (c .before .before .before .args .v) (c .before .before .before .pre .1))
+    let e : toZ w64 (ofZ w64 (c .less .result)) ≡ negℤ (q .args .range .low) = toZ-ofZ g ∙ rw (toZ-ofZ f) at (c .less .ensures) ∙ +ℤ-idl (negℤ (q .args .range .low)) in
+    rw (e, c .before .before .if1 .taken) (refl, end-single (q .args .range) true (q .args .v) (q .pre .1))
 
 mul-coef-2 : tie.Need-mul-coef-2
 mul-coef-2 c = search needs

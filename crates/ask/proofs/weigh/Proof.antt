@@ -12,7 +12,9 @@ word-at-requires : tie.Need-word-at-requires
 word-at-requires c κs = search needs
 
 add-word-at : tie.Need-add-word-at
-add-word-at c = let r = room (theProgram (c .before .before .before .args .words .now)) (c .before .before .before .pre .0 .accepted .good) (c .before .before .before .args .lemmas .now) (c .before .before .before .args .at) (c .before .before .before .pre .1) in omega (arith, c .before .before .before .good .1 .1 .1 .0 .0)
+add-word-at c =
+    let f = c .before .before .before in
+    let r = room (theProgram (f .args .words .now)) (f .pre .0 .accepted .good) (f .args .lemmas .now) (f .args .at) (f .pre .1) in omega (arith, f .good .1 .1 .1 .0 .0)
 
 word-at-requires-2 : tie.Need-word-at-requires-2
 word-at-requires-2 c κs = search needs
@@ -24,23 +26,40 @@ index-requires : tie.Need-index-requires
 index-requires c κs = search needs
 
 goal-row-requires : tie.Need-goal-row-requires
-goal-row-requires c κs = let k = index-ready (c .before .before .before .before .before .before .before .before .before .args .words .now) (c .before .before .before .before .before .before .before .before .before .pre .0) (c .before .before .before .before .before .before .before .before .before .args .lemmas .now) (c .before .before .before .before .before .before .before .before .before .args .at) (c .before .before .before .before .before .before .before .before .before .pre .1) (c .before .before .before .before .before .before .word-at .ensures) (c .before .before .before .before .before .word-at2 .ensures) (c .before .before .before .before .goal .ensures) (c .index .ensures) (c .before .before .before .before .before .before .before .before .before .pre .2) in
-    (k .0, k .1, ranges-ready (c .before .before .before .before .before .before .before .before .before .args .words .now) (c .before .before .before .before .before .before .before .before .before .pre .0) (c .before .before .before .before .before .before .before .before .before .args .lemmas .now) (c .before .before .before .before .before .before .before .before .before .args .at) (c .before .before .before .before .before .before .before .before .before .pre .1), preds-ready (c .before .before .before .before .before .before .before .before .before .args .words .now) (c .before .before .before .before .before .before .before .before .before .pre .0) (c .before .before .before .before .before .before .before .before .before .args .lemmas .now) (c .before .before .before .before .before .before .before .before .before .args .at) (c .before .before .before .before .before .before .before .before .before .pre .1))
+goal-row-requires c κs =
+    let q = c .before .before .before .before in
+    let f = q .before .before .before .before .before in
+    let k = index-ready (f .args .words .now) (f .pre .0) (f .args .lemmas .now) (f .args .at) (f .pre .1) (q .before .before .word-at .ensures) (q .before .word-at2 .ensures) (q .goal .ensures) (c .index .ensures) (f .pre .2) in
+    (k .0, k .1, ranges-ready (f .args .words .now) (f .pre .0) (f .args .lemmas .now) (f .args .at) (f .pre .1), preds-ready (f .args .words .now) (f .pre .0) (f .args .lemmas .now) (f .args .at) (f .pre .1))
 
 refuter-requires : tie.Need-refuter-requires
-refuter-requires c κs = (c .goal-row .ensures .1, new-ready (c .before .before .before .before .before .before .before .before .before .before .args .words .now) (c .before .before .before .before .before .before .before .before .before .before .pre .0) (c .before .before .before .before .before .before .before .before .before .before .args .lemmas .now) (c .before .before .before .before .before .before .before .before .before .before .args .at) (c .before .before .before .before .before .before .before .before .before .before .pre .1) (c .before .before .before .before .before .before .before .word-at .ensures) (c .before .before .before .before .before .before .word-at2 .ensures) (c .before .before .before .before .before .goal .ensures) (c .before .index .ensures) (c .before .before .before .before .before .before .before .before .before .before .pre .2))
+refuter-requires c κs =
+    let q = c .before .before .before .before .before in
+    let f = q .before .before .before .before .before in
+    (c .goal-row .ensures .1, new-ready (f .args .words .now) (f .pre .0) (f .args .lemmas .now) (f .args .at) (f .pre .1) (q .before .before .word-at .ensures) (q .before .word-at2 .ensures) (q .goal .ensures) (c .before .index .ensures) (f .pre .2))
 
 add-lemma-sum : tie.Need-add-lemma-sum
-add-lemma-sum c = let r = room (theProgram (c .before .before .before .before .before .before .before .before .before .before .before .before .args .words .now)) (c .before .before .before .before .before .before .before .before .before .before .before .before .pre .0 .accepted .good) (c .before .before .before .before .before .before .before .before .before .before .before .before .args .lemmas .now) (c .before .before .before .before .before .before .before .before .before .before .before .before .args .at) (c .before .before .before .before .before .before .before .before .before .before .before .before .pre .1) in omega (arith, c .before .before .before .before .before .before .before .before .before .before .before .before .good .1 .1 .1 .0 .0)
+add-lemma-sum c =
+    let f = c .before .before .before .before .before .before .before .before .before .before .before .before in
+    let r = room (theProgram (f .args .words .now)) (f .pre .0 .accepted .good) (f .args .lemmas .now) (f .args .at) (f .pre .1) in omega (arith, f .good .1 .1 .1 .0 .0)
 
 lemma-sum-requires : tie.Need-lemma-sum-requires
-lemma-sum-requires c κs = (sum-ready (c .before .before .before .before .before .before .before .before .before .before .before .before .args .words .now) (c .before .before .before .before .before .before .before .before .before .before .before .before .pre .0) (c .before .before .before .before .before .before .before .before .before .before .before .before .args .lemmas .now) (c .before .before .before .before .before .before .before .before .before .before .before .before .args .at) (c .before .before .before .before .before .before .before .before .before .before .before .before .pre .1) (c .before .before .before .before .before .before .before .before .before .word-at .ensures) (c .before .before .before .before .before .before .before .before .word-at2 .ensures) (c .before .before .before .before .before .before .before .goal .ensures) (c .before .before .before .index .ensures) (c .before .before .before .before .before .before .before .before .before .before .before .before .pre .2) (c .before .before .goal-row .ensures .0) (c .before .refuter .ensures .0), (c .before .refuter .ensures .1, (preds-ready (c .before .before .before .before .before .before .before .before .before .before .before .before .args .words .now) (c .before .before .before .before .before .before .before .before .before .before .before .before .pre .0) (c .before .before .before .before .before .before .before .before .before .before .before .before .args .lemmas .now) (c .before .before .before .before .before .before .before .before .before .before .before .before .args .at) (c .before .before .before .before .before .before .before .before .before .before .before .before .pre .1), rows-ready (c .before .before .before .before .before .before .before .before .before .before .before .before .args .words .now) (c .before .before .before .before .before .before .before .before .before .before .before .before .pre .0) (c .before .before .before .before .before .before .before .before .before .before .before .before .args .lemmas .now) (c .before .before .before .before .before .before .before .before .before .before .before .before .args .at) (c .before .before .before .before .before .before .before .before .before .before .before .before .pre .1) (c .before .before .before .before .before .before .before .before .before .word-at .ensures) (c .before .before .before .before .before .before .before .before .word-at2 .ensures) (c .before .before .before .before .before .before .before .goal .ensures) (c .before .before .before .index .ensures) (c .before .before .before .before .before .before .before .before .before .before .before .before .pre .2))))
+lemma-sum-requires c κs =
+    let q = c .before .before .before .before .before .before .before in
+    let f = q .before .before .before .before .before in
+    (sum-ready (f .args .words .now) (f .pre .0) (f .args .lemmas .now) (f .args .at) (f .pre .1) (q .before .before .word-at .ensures) (q .before .word-at2 .ensures) (q .goal .ensures) (c .before .before .before .index .ensures) (f .pre .2) (c .before .before .goal-row .ensures .0) (c .before .refuter .ensures .0), (c .before .refuter .ensures .1, (preds-ready (f .args .words .now) (f .pre .0) (f .args .lemmas .now) (f .args .at) (f .pre .1), rows-ready (f .args .words .now) (f .pre .0) (f .args .lemmas .now) (f .args .at) (f .pre .1) (q .before .before .word-at .ensures) (q .before .word-at2 .ensures) (q .goal .ensures) (c .before .before .before .index .ensures) (f .pre .2))))
 
 largest-requires : tie.Need-largest-requires
-largest-requires c κs = (c .lemma-sum .ensures .1 .coefs, ranges-ready (c .before .before .before .before .before .before .before .before .before .before .before .before .before .args .words .now) (c .before .before .before .before .before .before .before .before .before .before .before .before .before .pre .0) (c .before .before .before .before .before .before .before .before .before .before .before .before .before .args .lemmas .now) (c .before .before .before .before .before .before .before .before .before .before .before .before .before .args .at) (c .before .before .before .before .before .before .before .before .before .before .before .before .before .pre .1))
+largest-requires c κs =
+    let f = c .before .before .before .before .before .before .before .before .before .before .before .before .before in
+    (c .lemma-sum .ensures .1 .coefs, ranges-ready (f .args .words .now) (f .pre .0) (f .args .lemmas .now) (f .args .at) (f .pre .1))
 
 returns : tie.Need-returns
-returns c = c .largest .ensures ∙ ap (λ (z : ℤ). exact z) (weighed-is (c .before .before .before .before .before .before .before .before .before .before .before .before .before .before .args .words .now) (c .before .before .before .before .before .before .before .before .before .before .before .before .before .before .pre .0) (c .before .before .before .before .before .before .before .before .before .before .before .before .before .before .args .lemmas .now) (c .before .before .before .before .before .before .before .before .before .before .before .before .before .before .args .at) (c .before .before .before .before .before .before .before .before .before .before .before .before .before .before .pre .1) (c .before .before .before .before .before .before .before .before .before .before .before .word-at .ensures) (c .before .before .before .before .before .before .before .before .before .before .word-at2 .ensures) (c .before .before .before .before .before .before .before .before .before .goal .ensures) (c .before .before .before .before .before .index .ensures) (c .before .before .before .before .before .before .before .before .before .before .before .before .before .before .pre .2) (c .before .before .before .before .goal-row .ensures .0) (c .before .before .before .refuter .ensures .0) (c .before .lemma-sum .ensures .0))
+returns c =
+    let q = c .before .before .before in
+    let l = q .before .before .before .before .before .before in
+    let f = l .before .before .before .before .before in
+    c .largest .ensures ∙ ap (λ (z : ℤ). exact z) (weighed-is (f .args .words .now) (f .pre .0) (f .args .lemmas .now) (f .args .at) (f .pre .1) (l .before .before .word-at .ensures) (l .before .word-at2 .ensures) (l .goal .ensures) (q .before .before .index .ensures) (f .pre .2) (q .before .goal-row .ensures .0) (q .refuter .ensures .0) (c .before .lemma-sum .ensures .0))
 
 pub weigh-spec : {M : Type 1} → statement M
 weigh-spec =

@@ -41,25 +41,31 @@ same-length : tie.Need-same-length
 same-length c = search needs
 
 returns : tie.Need-returns
-returns c = λ ls g r. let v = found-nothing g (r .nodes-are) (r .edges-are) (findings (theProgram (c .before .before .before .before .before .before .before .before .before .before .before .before .args .words .now)) ls g) (sym (c .before .before .before .before .enum-told .given .1) ∙ c .before .before .before .before .before .before .first-finding .ensures .1 ls g _ r) in
-    (v .0, c .before .before .clear-path .ensures ∙ ap (λ (js : List ℕ). pathList js (c .before .before .before .before .before .before .before .before .before .before .before .before .args .path .now)) (v .1))
+returns c =
+    let q = c .before .before .before .before in
+    λ ls g r. let v = found-nothing g (r .nodes-are) (r .edges-are) (findings (theProgram (q .before .before .before .before .before .before .before .before .args .words .now)) ls g) (sym (q .enum-told .given .1) ∙ q .before .before .first-finding .ensures .1 ls g _ r) in
+    (v .0, c .before .before .clear-path .ensures ∙ ap (λ (js : List ℕ). pathList js (q .before .before .before .before .before .before .before .before .args .path .now)) (v .1))
 
 same-length-2 : tie.Need-same-length-2
 same-length-2 c = search needs
 
 returns-2 : tie.Need-returns-2
-returns-2 c = λ ls g r. let s = c .before .before .before .before .before .before .before .before .before .before .before .before .before in
-    let v = found-forbid g (r .nodes-are) (r .edges-are) (findings (theProgram (s .args .words .now)) ls g) (sym (c .before .before .before .before .before .found .given .1) ∙ c .before .before .before .before .before .before .before .first-finding .ensures .1 ls g _ r) in
-    let k = rw (c .before .before .before .before .before .found .given .1) at (c .before .before .before .before .before .before .before .first-finding .ensures .0) in
+returns-2 c =
+    let q = c .before .before .before .before .before in
+    λ ls g r. let s = q .before .before .before .before .before .before .before .before in
+    let v = found-forbid g (r .nodes-are) (r .edges-are) (findings (theProgram (s .args .words .now)) ls g) (sym (q .found .given .1) ∙ q .before .before .first-finding .ensures .1 ls g _ r) in
+    let k = rw (q .found .given .1) at (q .before .before .first-finding .ensures .0) in
     (v .0, c .before .before .write-path .ensures g (r .before) (listed-as (s .args .words .now) (s .pre .0) ls g r) (traced-here (s .args .words .now) (s .pre .0) ls g r) (omega (arith, k, r .nodes-are)) ∙ ap (λ (js : List ℕ). pathList js (s .args .path .now)) (v .1))
 
 same-length-3 : tie.Need-same-length-3
 same-length-3 c = search needs
 
 returns-3 : tie.Need-returns-3
-returns-3 c = λ ls g r. let s = c .before .before .before .before .before .before .before .before .before .before .before .before .before in
-    let v = found-off g (r .nodes-are) (r .edges-are) (findings (theProgram (s .args .words .now)) ls g) (sym (c .before .before .before .before .before .found2 .given .1) ∙ c .before .before .before .before .before .before .before .first-finding .ensures .1 ls g _ r) in
-    let k = rw (c .before .before .before .before .before .found2 .given .1) at (c .before .before .before .before .before .before .before .first-finding .ensures .0) in
+returns-3 c =
+    let q = c .before .before .before .before .before in
+    λ ls g r. let s = q .before .before .before .before .before .before .before .before in
+    let v = found-off g (r .nodes-are) (r .edges-are) (findings (theProgram (s .args .words .now)) ls g) (sym (q .found2 .given .1) ∙ q .before .before .first-finding .ensures .1 ls g _ r) in
+    let k = rw (q .found2 .given .1) at (q .before .before .first-finding .ensures .0) in
     (v .0, c .before .before .write-path2 .ensures g (r .before) (listed-as (s .args .words .now) (s .pre .0) ls g r) (traced-here (s .args .words .now) (s .pre .0) ls g r) (omega (arith, k, r .nodes-are)) ∙ ap (λ (js : List ℕ). pathList js (s .args .path .now)) (v .1))
 
 pub judge-graph-spec : {M : Type 1} → statement M

@@ -11,7 +11,9 @@ tabulate-requires : tie.Need-tabulate-requires
 tabulate-requires c κs = search needs
 
 returns : tie.Need-returns
-returns c = sum-off (c .before .before .before .before .before .before .args .words .now) (c .before .before .before .before .before .before .args .lemmas .now) (c .before .before .before .before .before .before .pre .0) (c .before .before .before .before .before .before .pre .1) (c .before .tabulate .ensures) (c .before .before .before .before .before .before .args .graph .now) (c .before .before .before .before .before .before .args .path .now) (c .if1 .taken)
+returns c =
+    let f = c .before .before .before .before .before .before in
+    sum-off (f .args .words .now) (f .args .lemmas .now) (f .pre .0) (f .pre .1) (c .before .tabulate .ensures) (f .args .graph .now) (f .args .path .now) (c .if1 .taken)
 
 slice-aggregate-explore : tie.Need-slice-aggregate-explore
 slice-aggregate-explore c = search needs
@@ -20,7 +22,10 @@ slice-aggregate-explore-2 : tie.Need-slice-aggregate-explore-2
 slice-aggregate-explore-2 c = search needs
 
 explore-requires : tie.Need-explore-requires
-explore-requires c κs = (c .before .before .before .before .before .before .tabulate .ensures .few .0, c .before .before .before .before .before .before .tabulate .ensures .few .1, c .before .before .before .before .before .before .before .before .before .before .before .pre .2, actions-few (c .before .before .before .before .before .before .before .before .before .before .before .args .words .now) (c .before .before .before .before .before .before .before .before .before .before .before .args .lemmas .now) (c .before .before .before .before .before .before .before .before .before .before .before .pre .0) (c .before .before .before .before .before .before .before .before .before .before .before .pre .1) (c .before .before .before .before .before .before .tabulate .ensures) (c .before .before .before .before .before .before .before .before .before .before .before .args .graph .now) (c .before .before .before .before .before .before .before .before .before .before .before .args .path .now) (c .before .before .before .before .before .if1 .left))
+explore-requires c κs =
+    let q = c .before .before .before .before .before in
+    let f = q .before .before .before .before .before .before in
+    (q .before .tabulate .ensures .few .0, q .before .tabulate .ensures .few .1, f .pre .2, actions-few (f .args .words .now) (f .args .lemmas .now) (f .pre .0) (f .pre .1) (q .before .tabulate .ensures) (f .args .graph .now) (f .args .path .now) (q .if1 .left))
 
 enum-told : tie.Need-enum-told
 enum-told c = search needs
@@ -35,20 +40,28 @@ slice-aggregate-judge-graph-2 : tie.Need-slice-aggregate-judge-graph-2
 slice-aggregate-judge-graph-2 c = search needs
 
 judge-graph-requires : tie.Need-judge-graph-requires
-judge-graph-requires c κs = let w = whole-is (c .before .before .before .before .before .before .before .before .before .before .before .before .before .before .before .before .before .before .before .before .before .args .words .now) (c .before .before .before .before .before .before .before .before .before .before .before .before .before .before .before .before .before .before .before .before .before .args .lemmas .now) (c .before .before .before .before .before .before .before .before .before .before .before .before .before .before .before .before .before .before .before .before .before .pre .0) (c .before .before .before .before .before .before .before .before .before .before .before .before .before .before .before .before .before .before .before .before .before .pre .1) (c .before .before .before .before .before .before .before .before .before .before .before .before .before .before .before .before .tabulate .ensures) (c .before .before .before .before .before .before .before .before .before .before .before .before .before .before .before .before .before .before .before .before .before .args .graph .now) (c .before .before .before .before .before .before .before .before .before .before .before .before .before .before .before .before .before .before .before .before .before .args .path .now) (c .before .before .before .before .before .before .before .before .before .before .before .before .before .before .before .if1 .left) refl (c .before .before .before .before .before .before .before .before .before .explore .ensures .0) (c .before .before .before .before .before .before .before .before .before .explore .ensures .1) (c .before .before .before .before .before .explored .given .1) in (
-  c .before .before .before .before .before .before .before .before .before .before .before .before .before .before .before .before .before .before .before .before .before .pre .0,
-  c .before .before .before .before .before .before .before .before .before .before .before .before .before .before .before .before .tabulate .ensures .few .0,
-  c .before .before .before .before .before .before .before .before .before .before .before .before .before .before .before .before .tabulate .ensures .few .1,
-  omega (arith, c .before .before .before .before .before .before .before .before .before .explore .kept .1 .1 .1 .1 .0, c .before .before .before .before .before .before .before .before .before .before .before .before .before .before .before .before .before .before .before .before .before .pre .2),
-  c .before .before .before .before .before .before .before .before .before .before .before .before .before .before .before .before .before .before .before .before .before .pre .3,
-  (theLemmas (theProgram (c .before .before .before .before .before .before .before .before .before .before .before .before .before .before .before .before .before .before .before .before .before .args .words .now)) (c .before .before .before .before .before .before .before .before .before .before .before .before .before .before .before .before .before .before .before .before .before .args .lemmas .now), w .made, ready (c .before .before .before .before .before .before .before .before .before .before .before .before .before .before .before .before .before .before .before .before .before .args .words .now) (c .before .before .before .before .before .before .before .before .before .before .before .before .before .before .before .before .before .before .before .before .before .args .lemmas .now) (c .before .before .before .before .before .before .before .before .before .before .before .before .before .before .before .before .before .before .before .before .before .pre .0) (c .before .before .before .before .before .before .before .before .before .before .before .before .before .before .before .before .before .before .before .before .before .pre .1) (c .before .before .before .before .before .before .before .before .before .before .before .before .before .before .before .before .tabulate .ensures) (c .before .before .before .before .before .before .before .before .before .before .before .before .before .before .before .before .before .before .before .before .before .args .graph .now) (c .before .before .before .before .before .before .before .before .before .before .before .before .before .before .before .before .before .before .before .before .before .args .path .now) (c .before .before .before .before .before .before .before .before .before .before .before .before .before .before .before .if1 .left) refl (c .before .before .before .before .before .before .before .before .before .explore .ensures .0) (c .before .before .before .before .before .before .before .before .before .explore .ensures .1) (c .before .before .before .before .before .explored .given .1)),
-)
+judge-graph-requires c κs =
+    let q = c .before .before .before .before .before in
+    let l = q .before .before .before .before in
+    let p = l .before .before .before .before .before .before in
+    let f = p .before .before .before .before .before .before in
+    let w = whole-is (f .args .words .now) (f .args .lemmas .now) (f .pre .0) (f .pre .1) (p .before .tabulate .ensures) (f .args .graph .now) (f .args .path .now) (p .if1 .left) refl (l .explore .ensures .0) (l .explore .ensures .1) (q .explored .given .1) in (
+      f .pre .0,
+      p .before .tabulate .ensures .few .0,
+      p .before .tabulate .ensures .few .1,
+      omega (arith, l .explore .kept .1 .1 .1 .1 .0, f .pre .2),
+      f .pre .3,
+      (theLemmas (theProgram (f .args .words .now)) (f .args .lemmas .now), w .made, ready (f .args .words .now) (f .args .lemmas .now) (f .pre .0) (f .pre .1) (p .before .tabulate .ensures) (f .args .graph .now) (f .args .path .now) (p .if1 .left) refl (l .explore .ensures .0) (l .explore .ensures .1) (q .explored .given .1)),
+    )
 
 same-length : tie.Need-same-length
 same-length c = search needs
 
 returns-2 : tie.Need-returns-2
-returns-2 c = too-many (c .before .before .before .before .before .before .before .before .before .before .before .before .before .before .before .before .args .words .now) (c .before .before .before .before .before .before .before .before .before .before .before .before .before .before .before .before .args .lemmas .now) (c .before .before .before .before .before .before .before .before .before .before .before .before .before .before .before .before .pre .0) (c .before .before .before .before .before .before .before .before .before .before .before .before .before .before .before .before .pre .1) (c .before .before .before .before .before .before .before .before .before .before .before .tabulate .ensures) (c .before .before .before .before .before .before .before .before .before .before .before .before .before .before .before .before .args .graph .now) (c .before .before .before .before .before .before .before .before .before .before .before .before .before .before .before .before .args .path .now) (c .before .before .before .before .before .before .before .before .before .before .if1 .left) refl (c .before .before .before .before .explore .ensures .0) (c .before .before .before .before .explore .ensures .1) (c .enum-told .given .1)
+returns-2 c =
+    let q = c .before .before .before .before .before .before .before .before .before .before in
+    let f = q .before .before .before .before .before .before in
+    too-many (f .args .words .now) (f .args .lemmas .now) (f .pre .0) (f .pre .1) (q .before .tabulate .ensures) (f .args .graph .now) (f .args .path .now) (q .if1 .left) refl (c .before .before .before .before .explore .ensures .0) (c .before .before .before .before .explore .ensures .1) (c .enum-told .given .1)
 
 same-length-2 : tie.Need-same-length-2
 same-length-2 c = search needs
@@ -57,8 +70,13 @@ same-length-3 : tie.Need-same-length-3
 same-length-3 c = search needs
 
 returns-3 : tie.Need-returns-3
-returns-3 c = let w = whole-is (c .before .before .before .before .before .before .before .before .before .before .before .before .before .before .before .before .before .before .before .before .before .before .before .before .args .words .now) (c .before .before .before .before .before .before .before .before .before .before .before .before .before .before .before .before .before .before .before .before .before .before .before .before .args .lemmas .now) (c .before .before .before .before .before .before .before .before .before .before .before .before .before .before .before .before .before .before .before .before .before .before .before .before .pre .0) (c .before .before .before .before .before .before .before .before .before .before .before .before .before .before .before .before .before .before .before .before .before .before .before .before .pre .1) (c .before .before .before .before .before .before .before .before .before .before .before .before .before .before .before .before .before .before .before .tabulate .ensures) (c .before .before .before .before .before .before .before .before .before .before .before .before .before .before .before .before .before .before .before .before .before .before .before .before .args .graph .now) (c .before .before .before .before .before .before .before .before .before .before .before .before .before .before .before .before .before .before .before .before .before .before .before .before .args .path .now) (c .before .before .before .before .before .before .before .before .before .before .before .before .before .before .before .before .before .before .if1 .left) refl (c .before .before .before .before .before .before .before .before .before .before .before .before .explore .ensures .0) (c .before .before .before .before .before .before .before .before .before .before .before .before .explore .ensures .1) (c .before .before .before .before .before .before .before .before .explored .given .1) in
-    judged (c .before .before .before .before .before .before .before .before .before .before .before .before .before .before .before .before .before .before .before .before .before .before .before .before .args .words .now) (c .before .before .before .before .before .before .before .before .before .before .before .before .before .before .before .before .before .before .before .before .before .before .before .before .args .lemmas .now) (c .before .before .before .before .before .before .before .before .before .before .before .before .before .before .before .before .before .before .before .before .before .before .before .before .pre .0) (c .before .before .before .before .before .before .before .before .before .before .before .before .before .before .before .before .before .before .before .before .before .before .before .before .pre .1) (c .before .before .before .before .before .before .before .before .before .before .before .before .before .before .before .before .before .before .before .tabulate .ensures) (c .before .before .before .before .before .before .before .before .before .before .before .before .before .before .before .before .before .before .before .before .before .before .before .before .args .graph .now) (c .before .before .before .before .before .before .before .before .before .before .before .before .before .before .before .before .before .before .before .before .before .before .before .before .args .path .now) (c .before .before .before .before .before .before .before .before .before .before .before .before .before .before .before .before .before .before .if1 .left) refl (c .before .before .before .before .before .before .before .before .before .before .before .before .explore .ensures .0) (c .before .before .before .before .before .before .before .before .before .before .before .before .explore .ensures .1) (c .before .before .before .before .before .before .before .before .explored .given .1) (c .before .before .judge-graph .ensures (theLemmas (theProgram (c .before .before .before .before .before .before .before .before .before .before .before .before .before .before .before .before .before .before .before .before .before .before .before .before .args .words .now)) (c .before .before .before .before .before .before .before .before .before .before .before .before .before .before .before .before .before .before .before .before .before .before .before .before .args .lemmas .now)) (w .made) (ready (c .before .before .before .before .before .before .before .before .before .before .before .before .before .before .before .before .before .before .before .before .before .before .before .before .args .words .now) (c .before .before .before .before .before .before .before .before .before .before .before .before .before .before .before .before .before .before .before .before .before .before .before .before .args .lemmas .now) (c .before .before .before .before .before .before .before .before .before .before .before .before .before .before .before .before .before .before .before .before .before .before .before .before .pre .0) (c .before .before .before .before .before .before .before .before .before .before .before .before .before .before .before .before .before .before .before .before .before .before .before .before .pre .1) (c .before .before .before .before .before .before .before .before .before .before .before .before .before .before .before .before .before .before .before .tabulate .ensures) (c .before .before .before .before .before .before .before .before .before .before .before .before .before .before .before .before .before .before .before .before .before .before .before .before .args .graph .now) (c .before .before .before .before .before .before .before .before .before .before .before .before .before .before .before .before .before .before .before .before .before .before .before .before .args .path .now) (c .before .before .before .before .before .before .before .before .before .before .before .before .before .before .before .before .before .before .if1 .left) refl (c .before .before .before .before .before .before .before .before .before .before .before .before .explore .ensures .0) (c .before .before .before .before .before .before .before .before .before .before .before .before .explore .ensures .1) (c .before .before .before .before .before .before .before .before .explored .given .1)))
+returns-3 c =
+    let q = c .before .before .before .before .before .before .before .before in
+    let l = q .before .before .before .before in
+    let p = l .before .before .before .before .before .before in
+    let f = p .before .before .before .before .before .before in
+    let w = whole-is (f .args .words .now) (f .args .lemmas .now) (f .pre .0) (f .pre .1) (p .before .tabulate .ensures) (f .args .graph .now) (f .args .path .now) (p .if1 .left) refl (l .explore .ensures .0) (l .explore .ensures .1) (q .explored .given .1) in
+    judged (f .args .words .now) (f .args .lemmas .now) (f .pre .0) (f .pre .1) (p .before .tabulate .ensures) (f .args .graph .now) (f .args .path .now) (p .if1 .left) refl (l .explore .ensures .0) (l .explore .ensures .1) (q .explored .given .1) (c .before .before .judge-graph .ensures (theLemmas (theProgram (f .args .words .now)) (f .args .lemmas .now)) (w .made) (ready (f .args .words .now) (f .args .lemmas .now) (f .pre .0) (f .pre .1) (p .before .tabulate .ensures) (f .args .graph .now) (f .args .path .now) (p .if1 .left) refl (l .explore .ensures .0) (l .explore .ensures .1) (q .explored .given .1)))
 
 pub judge-list-spec : {M : Type 1} → statement M
 judge-list-spec =

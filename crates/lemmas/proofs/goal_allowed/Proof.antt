@@ -14,10 +14,14 @@ is-set-requires : tie.Need-is-set-requires
 is-set-requires c κs = search needs
 
 returns-3 : tie.Need-returns-3
-returns-3 c = c .is-set .ensures ∙ goal-end (c .before .before .before .before .args .preds) (c .before .before .before .before .args .set) (c .before .before .before .before .args .index) (c .before .before .before .before .args .goal) (c .before .before .if2 .left) (c .before .if3 .taken)
+returns-3 c =
+    let f = c .before .before .before .before in
+    c .is-set .ensures ∙ goal-end (f .args .preds) (f .args .set) (f .args .index) (f .args .goal) (c .before .before .if2 .left) (c .before .if3 .taken)
 
 returns-4 : tie.Need-returns-4
-returns-4 c = goal-none (c .before .before .before .args .preds) (c .before .before .before .args .set) (c .before .before .before .args .index) (c .before .before .before .args .goal) (c .if3 .left)
+returns-4 c =
+    let f = c .before .before .before in
+    goal-none (f .args .preds) (f .args .set) (f .args .index) (f .args .goal) (c .if3 .left)
 
 pub goal-allowed-spec : {M : Type 1} → statement M
 goal-allowed-spec = tie.close (tie.spec returns returns-2 is-set-requires returns-3 returns-4)

@@ -27,7 +27,9 @@ goal-allowed-requires : tie.Need-goal-allowed-requires
 goal-allowed-requires c κs = search needs
 
 returns-3 : tie.Need-returns-3
-returns-3 c = let e = rw (c .before .before .before .before .before .source .ensures) at (sym (c .before .before .before .before .source-allowed .ensures) ∙ not-false _ (c .before .before .before .if2 .left)) in c .goal-allowed .ensures ∙ rw (c .before .before .goal .ensures, c .before .index .ensures, eq-eqb _ 0 (c .before .before .before .before .before .before .if1 .left), e) refl
+returns-3 c =
+    let q = c .before .before .before in
+    let e = rw (q .before .before .source .ensures) at (sym (q .before .source-allowed .ensures) ∙ not-false _ (q .if2 .left)) in c .goal-allowed .ensures ∙ rw (c .before .before .goal .ensures, c .before .index .ensures, eq-eqb _ 0 (q .before .before .before .if1 .left), e) refl
 
 pub head-allowed-spec : {M : Type 1} → statement M
 head-allowed-spec =

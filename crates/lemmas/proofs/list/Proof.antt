@@ -21,13 +21,19 @@ not-listed-requires-2 : tie.Need-not-listed-requires-2
 not-listed-requires-2 c κs = search needs
 
 returns : tie.Need-returns
-returns c = c .not-listed2 .ensures ∙ list-more (theProgram (c .before .before .before .before .before .before .before .before .args .words .now)) (c .before .before .before .before .before .before .before .before .pre .accepted .good) (c .before .before .before .before .before .before .before .before .args .lemmas .now) (c .before .before .before .before .before .read-lemmas .ensures) (c .before .before .before .next2 .given .1) (c .before .if1 .taken)
+returns c =
+    let f = c .before .before .before .before .before .before .before .before in
+    c .not-listed2 .ensures ∙ list-more (theProgram (f .args .words .now)) (f .pre .accepted .good) (f .args .lemmas .now) (c .before .before .before .before .before .read-lemmas .ensures) (c .before .before .before .next2 .given .1) (c .before .if1 .taken)
 
 returns-2 : tie.Need-returns-2
-returns-2 c = c .not-listed .ensures ∙ list-refused (theProgram (c .before .before .before .before .before .before .before .args .words .now)) (c .before .before .before .before .before .before .before .pre .accepted .good) (c .before .before .before .before .before .before .before .args .lemmas .now) (c .before .before .before .before .read-lemmas .ensures) (c .before .before .next .given .1)
+returns-2 c =
+    let f = c .before .before .before .before .before .before .before in
+    c .not-listed .ensures ∙ list-refused (theProgram (f .args .words .now)) (f .pre .accepted .good) (f .args .lemmas .now) (c .before .before .before .before .read-lemmas .ensures) (c .before .before .next .given .1)
 
 returns-3 : tie.Need-returns-3
-returns-3 c = list-whole (theProgram (c .before .before .before .before .before .before .before .before .args .words .now)) (c .before .before .before .before .before .before .before .before .pre .accepted .good) (c .before .before .before .before .before .before .before .before .args .lemmas .now) (c .before .before .before .before .before .read-lemmas .ensures) (c .before .before .before .next2 .given .1) (c .before .if1 .left)
+returns-3 c =
+    let f = c .before .before .before .before .before .before .before .before in
+    list-whole (theProgram (f .args .words .now)) (f .pre .accepted .good) (f .args .lemmas .now) (c .before .before .before .before .before .read-lemmas .ensures) (c .before .before .before .next2 .given .1) (c .before .if1 .left)
 
 pub list-spec : {M : Type 1} → statement M
 list-spec =

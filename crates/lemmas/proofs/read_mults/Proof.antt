@@ -25,7 +25,9 @@ next-is c = c .read-word .ensures ∙ rw (c .before .word-at .ensures) refl
 
 turn-of : (c : tie.After-enum-told Inv-loop μ-loop) → let s = c .before .before .before .before .before .before .before .args in let l = c .before .before .before .before .before .loop in
     (l .i < length (s .lemmas .now)) × Mults (s .lemmas .now) (s .at) (s .n) (l .i + 1) (l .k + 1)
-turn-of c = mults-next (c .before .before .before .before .before .before .before .args .lemmas .now) (c .before .before .before .before .before .before .before .args .at) (c .before .before .before .before .before .before .before .args .n) (c .before .before .before .before .before .loop .inv) (c .before .before .before .before .loop-test .taken) (sym (next-is (c .before .before)) ∙ c .enum-told .given .1)
+turn-of c =
+    let q = c .before .before .before .before in
+    mults-next (q .before .before .before .args .lemmas .now) (q .before .before .before .args .at) (q .before .before .before .args .n) (q .before .loop .inv) (q .loop-test .taken) (sym (next-is (c .before .before)) ∙ c .enum-told .given .1)
 
 loop-holds : tie.Need-loop-holds Inv-loop μ-loop
 loop-holds c = mults-begun (c .before .args .lemmas .now) (c .before .args .at) (c .before .args .n) (c .before .pre)
@@ -40,7 +42,9 @@ enum-known-next : tie.Need-enum-known-next Inv-loop μ-loop
 enum-known-next c = search needs
 
 returns : tie.Need-returns Inv-loop μ-loop
-returns c = mults-stopped (c .before .before .before .before .before .before .before .before .args .lemmas .now) (c .before .before .before .before .before .before .before .before .args .at) (c .before .before .before .before .before .before .before .before .args .n) (c .before .before .before .before .before .before .loop .inv) (c .before .before .before .before .before .loop-test .taken) (sym (next-is (c .before .before .before)) ∙ c .before .next .given .1)
+returns c =
+    let q = c .before .before .before .before .before in
+    mults-stopped (q .before .before .before .args .lemmas .now) (q .before .before .before .args .at) (q .before .before .before .args .n) (q .before .loop .inv) (q .loop-test .taken) (sym (next-is (c .before .before .before)) ∙ c .before .next .given .1)
 
 enum-told : tie.Need-enum-told Inv-loop μ-loop
 enum-told c = search needs

@@ -30,10 +30,11 @@ same-length c = search needs
 returns : tie.Need-returns
 unfolding line
 returns c =
-    let a = c .before .before .before .before .before .before .before .before .before .before .before .before .before .before .before .before .args in
+    let q = c .before .before .before .before .before .before .before in
+    let a = q .before .before .before .before .before .before .before .before .before .args in
     let all = length-line (a .first .now) (a .n) (a .second .now) (a .m) in
     let two = length-append (field (a .first .now) (a .n)) (field (a .second .now) (a .m)) in
-    then-put (then-put (c .before .before .before .before .before .before .before .before .before .before .before .put-field .ensures) (c .before .before .before .before .before .before .before .put-field2 .ensures) (omega arith)) (c .before .before .put-bytes .ensures) (omega arith)
+    then-put (then-put (q .before .before .before .before .put-field .ensures) (q .put-field2 .ensures) (omega arith)) (c .before .before .put-bytes .ensures) (omega arith)
 
 pub put-line-spec : {M : Type 1} → statement M
 put-line-spec =

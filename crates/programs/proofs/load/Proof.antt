@@ -26,8 +26,9 @@ start-is c = rw (place-is (c .before)) at (c .read-counted .ensures)
 
 second : (c : tie.After-enum-told2) → (rs : List Row) × CountedAt (c .before .before .before .before .before .before .before .before .args .words .now) INIT 8 (c .before .before .before .before .before .before .read-ranges .result .count) (c .before .before .before .before .enum-told .given .0 .0) (c .before .before .read-counted .result) (c .enum-told2 .given .0 .0) rs
 second c =
-    let (gs, t) = first (c .before .before .before .before) in
-    counted-at (c .before .before .before .before .before .before .before .before .args .words .now) INIT 8 (c .before .before .before .before .before .before .read-ranges .result .count) (c .before .before .before .before .enum-told .given .0 .0) (start-is (c .before .before)) (omega (arith, t .few, t .counted)) (omega arith) refl (t .here) (c .enum-told2 .given .1)
+    let q = c .before .before .before .before in
+    let (gs, t) = first (q) in
+    counted-at (q .before .before .before .before .args .words .now) INIT 8 (q .before .before .read-ranges .result .count) (q .enum-told .given .0 .0) (start-is (c .before .before)) (omega (arith, t .few, t .counted)) (omega arith) refl (t .here) (c .enum-told2 .given .1)
 
 place2-is : (c : tie.After-place2) → c .place2 .result ≡ c .before .enum-told2 .given .0 .0
 place2-is c = c .place2 .ensures ∙ rw (c .before .enum-told2 .given .1) refl
@@ -38,9 +39,10 @@ preds-is c = rw (place2-is (c .before)) at (c .read-counted2 .ensures)
 
 third : (c : tie.After-enum-told3) → (rs : List Row) × CountedAt (c .before .before .before .before .before .before .before .before .before .before .before .before .args .words .now) PRED 14 (c .before .before .before .before .before .before .before .before .before .before .read-ranges .result .count) (c .before .before .before .before .enum-told2 .given .0 .0) (c .before .before .read-counted2 .result) (c .enum-told3 .given .0 .0) rs
 third c =
-    let (gs, t) = first (c .before .before .before .before .before .before .before .before) in
-    let (rs, u) = second (c .before .before .before .before) in
-    counted-at (c .before .before .before .before .before .before .before .before .before .before .before .before .args .words .now) PRED 14 (c .before .before .before .before .before .before .before .before .before .before .read-ranges .result .count) (c .before .before .before .before .enum-told2 .given .0 .0) (preds-is (c .before .before)) (omega (arith, t .few, t .counted)) (omega arith) refl (u .here) (c .enum-told3 .given .1)
+    let q = c .before .before .before .before in
+    let (gs, t) = first (q .before .before .before .before) in
+    let (rs, u) = second (q) in
+    counted-at (q .before .before .before .before .before .before .before .before .args .words .now) PRED 14 (q .before .before .before .before .before .before .read-ranges .result .count) (q .enum-told2 .given .0 .0) (preds-is (c .before .before)) (omega (arith, t .few, t .counted)) (omega arith) refl (u .here) (c .enum-told3 .given .1)
 
 place3-is : (c : tie.After-place3) → c .place3 .result ≡ c .before .enum-told3 .given .0 .0
 place3-is c = c .place3 .ensures ∙ rw (c .before .enum-told3 .given .1) refl
@@ -74,9 +76,10 @@ no-image-requires-2 c κs = search needs
 
 returns-2 : tie.Need-returns-2
 returns-2 c =
-    let (gs, t) = first (c .before .before .before .before .before .before) in
-    let ws = c .before .before .before .before .before .before .before .before .before .before .args .words .now in
-    c .no-image2 .ensures ∙ sym (ap loaded (start-refused ws t (counted-stopped ws INIT 8 (c .before .before .before .before .before .before .before .before .read-ranges .result .count) (c .before .before .before .before .before .before .enum-told .given .0 .0) (start-is (c .before .before .before .before)) (c .before .before .next2 .given .1))))
+    let q = c .before .before .before .before .before .before in
+    let (gs, t) = first (q) in
+    let ws = q .before .before .before .before .args .words .now in
+    c .no-image2 .ensures ∙ sym (ap loaded (start-refused ws t (counted-stopped ws INIT 8 (q .before .before .read-ranges .result .count) (q .enum-told .given .0 .0) (start-is (c .before .before .before .before)) (c .before .before .next2 .given .1))))
 
 enum-told-2 : tie.Need-enum-told-2
 enum-told-2 c = search needs
@@ -95,10 +98,11 @@ no-image-requires-3 c κs = search needs
 
 returns-3 : tie.Need-returns-3
 returns-3 c =
-    let (gs, t) = first (c .before .before .before .before .before .before .before .before .before .before) in
-    let (rs, u) = second (c .before .before .before .before .before .before) in
-    let ws = c .before .before .before .before .before .before .before .before .before .before .before .before .before .before .args .words .now in
-    c .no-image3 .ensures ∙ sym (ap loaded (predicates-refused ws t u (counted-stopped ws PRED 14 (c .before .before .before .before .before .before .before .before .before .before .before .before .read-ranges .result .count) (c .before .before .before .before .before .before .enum-told2 .given .0 .0) (preds-is (c .before .before .before .before)) (c .before .before .next3 .given .1))))
+    let q = c .before .before .before .before .before .before in
+    let (gs, t) = first (q .before .before .before .before) in
+    let (rs, u) = second (q) in
+    let ws = q .before .before .before .before .before .before .before .before .args .words .now in
+    c .no-image3 .ensures ∙ sym (ap loaded (predicates-refused ws t u (counted-stopped ws PRED 14 (q .before .before .before .before .before .before .read-ranges .result .count) (q .enum-told2 .given .0 .0) (preds-is (c .before .before .before .before)) (c .before .before .next3 .given .1))))
 
 enum-told-3 : tie.Need-enum-told-3
 enum-told-3 c = search needs
@@ -113,10 +117,11 @@ load-rest-requires c κs =
 
 returns-4 : tie.Need-returns-4
 returns-4 c =
-    let (gs, t) = first (c .before .before .before .before .before .before .before .before .before .before) in
-    let (rs, u) = second (c .before .before .before .before .before .before) in
+    let q = c .before .before .before .before .before .before in
+    let (gs, t) = first (q .before .before .before .before) in
+    let (rs, u) = second (q) in
     let (qs, v) = third (c .before .before) in
-    c .load-rest .ensures ∙ rw (place3-is (c .before)) (load-is (c .before .before .before .before .before .before .before .before .before .before .before .before .before .before .args .words .now) t u v)
+    c .load-rest .ensures ∙ rw (place3-is (c .before)) (load-is (q .before .before .before .before .before .before .before .before .args .words .now) t u v)
 
 pub load-spec : {M : Type 1} → statement M
 load-spec =

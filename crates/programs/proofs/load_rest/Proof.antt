@@ -33,7 +33,9 @@ no-image-requires : tie.Need-no-image-requires
 no-image-requires c κs = search needs
 
 returns : tie.Need-returns
-returns c = c .no-image .ensures ∙ rw (actions-refused (c .before .before .before .before .before .before .args .ranges .count) (c .before .before .before .before .before .before .args .preds .count) (c .before .before .before .before .before .before .pre .0) (c .before .before .before .before .before .before .args .words .now) (c .before .before .before .before .before .before .args .at) (c .before .before .before .before .before .before .pre .2) (c .before .before .before .before .read-actions .ensures) (c .before .before .next .given .1)) refl
+returns c =
+    let f = c .before .before .before .before .before .before in
+    c .no-image .ensures ∙ rw (actions-refused (f .args .ranges .count) (f .args .preds .count) (f .pre .0) (f .args .words .now) (f .args .at) (f .pre .2) (c .before .before .before .before .read-actions .ensures) (c .before .before .next .given .1)) refl
 
 enum-told : tie.Need-enum-told
 enum-told c = search needs
@@ -42,7 +44,9 @@ place-requires : tie.Need-place-requires
 place-requires c κs = search needs
 
 read-forbidden-requires : tie.Need-read-forbidden-requires
-read-forbidden-requires c κs = (c .before .before .before .before .before .pre .1, rw (place-is c) (actions-within (c .before .before .before .before .before .args .ranges .count) (c .before .before .before .before .before .args .preds .count) (c .before .before .before .before .before .pre .0) (c .before .before .before .before .before .args .words .now) (c .before .before .before .before .before .args .at) (c .before .before .before .before .before .pre .2) (c .before .before .before .read-actions .ensures) (c .before .enum-told .given .1)))
+read-forbidden-requires c κs =
+    let f = c .before .before .before .before .before in
+    (f .pre .1, rw (place-is c) (actions-within (f .args .ranges .count) (f .args .preds .count) (f .pre .0) (f .args .words .now) (f .args .at) (f .pre .2) (c .before .before .before .read-actions .ensures) (c .before .enum-told .given .1)))
 
 enum-known-next-2 : tie.Need-enum-known-next-2
 enum-known-next-2 c = search needs
@@ -51,7 +55,10 @@ no-image-requires-2 : tie.Need-no-image-requires-2
 no-image-requires-2 c κs = search needs
 
 returns-2 : tie.Need-returns-2
-returns-2 c = c .no-image2 .ensures ∙ rw (forbidden-refused (c .before .before .before .before .before .before .before .before .before .before .args .ranges .count) (c .before .before .before .before .before .before .before .before .before .before .args .preds .count) (c .before .before .before .before .before .before .before .before .before .before .pre .0) (c .before .before .before .before .before .before .before .before .before .before .args .words .now) (c .before .before .before .before .before .before .before .before .before .before .args .at) (c .before .before .before .before .before .before .before .before .before .before .pre .2) (c .before .before .before .before .before .before .before .before .read-actions .ensures) (c .before .before .before .before .before .before .enum-told .given .1) (forbidden-is (c .before .before .before .before)) (c .before .before .next2 .given .1)) refl
+returns-2 c =
+    let q = c .before .before .before .before in
+    let f = q .before .before .before .before .before .before in
+    c .no-image2 .ensures ∙ rw (forbidden-refused (f .args .ranges .count) (f .args .preds .count) (f .pre .0) (f .args .words .now) (f .args .at) (f .pre .2) (q .before .before .before .before .read-actions .ensures) (q .before .before .enum-told .given .1) (forbidden-is (q)) (c .before .before .next2 .given .1)) refl
 
 enum-told-2 : tie.Need-enum-told-2
 enum-told-2 c = search needs
@@ -60,7 +67,10 @@ place-requires-2 : tie.Need-place-requires-2
 place-requires-2 c κs = search needs
 
 read-end-requires : tie.Need-read-end-requires
-read-end-requires c κs = rw (place2-is c) (forbidden-within (c .before .before .before .before .before .before .before .before .before .args .ranges .count) (c .before .before .before .before .before .before .before .before .before .args .preds .count) (c .before .before .before .before .before .before .before .before .before .pre .0) (c .before .before .before .before .before .before .before .before .before .args .words .now) (c .before .before .before .before .before .before .before .before .before .args .at) (c .before .before .before .before .before .before .before .before .before .pre .2) (c .before .before .before .before .before .before .before .read-actions .ensures) (c .before .before .before .before .before .enum-told .given .1) (forbidden-is (c .before .before .before)) (c .before .enum-told2 .given .1))
+read-end-requires c κs =
+    let q = c .before .before .before .before .before in
+    let f = q .before .before .before .before in
+    rw (place2-is c) (forbidden-within (f .args .ranges .count) (f .args .preds .count) (f .pre .0) (f .args .words .now) (f .args .at) (f .pre .2) (q .before .before .read-actions .ensures) (q .enum-told .given .1) (forbidden-is (c .before .before .before)) (c .before .enum-told2 .given .1))
 
 enum-known-next-3 : tie.Need-enum-known-next-3
 enum-known-next-3 c = search needs
@@ -69,7 +79,11 @@ no-image-requires-3 : tie.Need-no-image-requires-3
 no-image-requires-3 c κs = search needs
 
 returns-3 : tie.Need-returns-3
-returns-3 c = c .no-image3 .ensures ∙ rw (end-stopped (c .before .before .before .before .before .before .before .before .before .before .before .before .before .before .args .ranges .count) (c .before .before .before .before .before .before .before .before .before .before .before .before .before .before .args .preds .count) (c .before .before .before .before .before .before .before .before .before .before .before .before .before .before .pre .0) (c .before .before .before .before .before .before .before .before .before .before .before .before .before .before .args .words .now) (c .before .before .before .before .before .before .before .before .before .before .before .before .before .before .args .at) (c .before .before .before .before .before .before .before .before .before .before .before .before .before .before .pre .2) (c .before .before .before .before .before .before .before .before .before .before .before .before .read-actions .ensures) (c .before .before .before .before .before .before .before .before .before .before .enum-told .given .1) (forbidden-is (c .before .before .before .before .before .before .before .before)) (c .before .before .before .before .before .before .enum-told2 .given .1) (sym (end-is (c .before .before .before .before)) ∙ c .before .before .next3 .given .1)) refl
+returns-3 c =
+    let q = c .before .before .before .before .before .before in
+    let l = q .before .before .before .before .before .before in
+    let f = l .before .before in
+    c .no-image3 .ensures ∙ rw (end-stopped (f .args .ranges .count) (f .args .preds .count) (f .pre .0) (f .args .words .now) (f .args .at) (f .pre .2) (l .read-actions .ensures) (q .before .before .before .before .enum-told .given .1) (forbidden-is (q .before .before)) (q .enum-told2 .given .1) (sym (end-is (c .before .before .before .before)) ∙ c .before .before .next3 .given .1)) refl
 
 enum-told-3 : tie.Need-enum-told-3
 enum-told-3 c = search needs
@@ -78,7 +92,11 @@ ready-requires : tie.Need-ready-requires
 ready-requires c κs = search needs
 
 returns-4 : tie.Need-returns-4
-returns-4 c = c .ready .ensures ∙ rest-read (c .before .before .before .before .before .before .before .before .before .before .before .before .before .before .before .before .before .before .args .ranges .count) (c .before .before .before .before .before .before .before .before .before .before .before .before .before .before .before .before .before .before .args .preds .count) (c .before .before .before .before .before .before .before .before .before .before .before .before .before .before .before .before .before .before .pre .0) (c .before .before .before .before .before .before .before .before .before .before .before .before .before .before .before .before .before .before .args .words .now) (c .before .before .before .before .before .before .before .before .before .before .before .before .before .before .before .before .before .before .args .at) (c .before .before .before .before .before .before .before .before .before .before .before .before .before .before .before .before .before .before .pre .2) (c .before .before .before .before .before .before .before .before .before .before .before .before .before .before .before .before .read-actions .ensures) (c .before .before .before .before .before .before .before .before .before .before .before .before .before .before .enum-told .given .1) (forbidden-is (c .before .before .before .before .before .before .before .before .before .before .before .before)) (c .before .before .before .before .before .before .before .before .before .before .enum-told2 .given .1) (c .before .before .before .before .before .before .before .before .before .before .before .before .before .before .before .before .before .before .args .ranges) (c .before .before .before .before .before .before .before .before .before .before .before .before .before .before .before .before .before .before .args .start) (c .before .before .before .before .before .before .before .before .before .before .before .before .before .before .before .before .before .before .args .preds) (sym (end-is (c .before .before .before .before .before .before .before .before)) ∙ c .before .before .before .before .before .before .enum-told3 .given .1)
+returns-4 c =
+    let q = c .before .before .before .before .before .before .before .before in
+    let l = q .before .before .before .before .before .before .before .before in
+    let f = l .before .before in
+    c .ready .ensures ∙ rest-read (f .args .ranges .count) (f .args .preds .count) (f .pre .0) (f .args .words .now) (f .args .at) (f .pre .2) (l .read-actions .ensures) (q .before .before .before .before .before .before .enum-told .given .1) (forbidden-is (q .before .before .before .before)) (q .before .before .enum-told2 .given .1) (f .args .ranges) (f .args .start) (f .args .preds) (sym (end-is (q)) ∙ c .before .before .before .before .before .before .enum-told3 .given .1)
 
 pub load-rest-spec : {M : Type 1} → statement M
 load-rest-spec =

@@ -43,7 +43,9 @@ returns-2 : tie.Need-returns-2
 returns-2 c = absurd (found-at (c .before .before .before .before) .never (c .before .before .read-action .ensures) (c .enum-told .given .1))
 
 returns-3 : tie.Need-returns-3
-returns-3 c = place-found (c .before .before .before .before .before .before .before .before .before .args .words .now) (c .before .before .before .before .before .before .before .before .before .args .k) (c .before .before .before .before .before .before .before .load .ensures) (c .before .before .before .before .before .if1 .left) (span-of (c .before))
+returns-3 c =
+    let q = c .before .before .before .before .before in
+    place-found (q .before .before .before .before .args .words .now) (q .before .before .before .before .args .k) (q .before .before .load .ensures) (q .if1 .left) (span-of (c .before))
 
 pub part-place-spec : {M : Type 1} → statement M
 part-place-spec = tie.close (tie.spec load-requires returns mul-at element-copy-out-at read-action-requires enum-told enum-known-next sub-t17 returns-2 returns-3)

@@ -19,7 +19,9 @@ abbrev μ-loop : tie.MeasureT-loop
 
 turn-of : (c : tie.After-next2 Inv-loop μ-loop) → let s = c .before .before .before .before .before .before .before .args in let l = c .before .before .before .before .before .loop in
     (l .k < 16) × Loop ACTION (action (s .vars)) 16 actionsFrom (s .words .now) (s .at) (replicate 16 0) (set (l .begin-at) (l .k) (l .i)) (c .next2 .given .0 .0) (l .k + 1)
-turn-of c = action-turned (c .before .before .before .before .before .before .before .args .vars) (c .before .before .before .before .before .loop .inv .0) (c .before .before .before .before .before .before .before .args .words .now) (c .before .before .before .before .before .before .before .args .at) (c .before .before .before .before .before .loop .inv .1) (sym (c .before .before .before .before .begins .ensures) ∙ c .before .before .before .if1 .taken) (c .before .before .read-action .ensures) (c .next2 .given .1)
+turn-of c =
+    let q = c .before .before .before .before in
+    action-turned (q .before .before .before .args .vars) (q .before .loop .inv .0) (q .before .before .before .args .words .now) (q .before .before .before .args .at) (q .before .loop .inv .1) (sym (q .begins .ensures) ∙ c .before .before .before .if1 .taken) (c .before .before .read-action .ensures) (c .next2 .given .1)
 
 loop-holds : tie.Need-loop-holds Inv-loop μ-loop
 loop-holds c = (search needs, begun ACTION (action _) 16 actionsFrom (c .before .args .words .now) (c .before .args .at) (replicate 16 0) (search needs))
@@ -37,7 +39,9 @@ no-actions-requires : tie.Need-no-actions-requires Inv-loop μ-loop
 no-actions-requires c κs = search needs
 
 returns : tie.Need-returns Inv-loop μ-loop
-returns c = c .no-actions .ensures ∙ actions-stopped (c .before .before .before .before .before .before .before .before .before .args .vars) (c .before .before .before .before .before .before .before .loop .inv .0) (c .before .before .before .before .before .before .before .before .before .args .words .now) (c .before .before .before .before .before .before .before .before .before .args .at) (c .before .before .before .before .before .before .before .loop .inv .1) (sym (c .before .before .before .before .before .before .begins .ensures) ∙ c .before .before .before .before .before .if1 .taken) (c .before .before .before .before .read-action .ensures) (c .before .before .next .given .1)
+returns c =
+    let q = c .before .before .before .before .before in
+    c .no-actions .ensures ∙ actions-stopped (q .before .before .before .before .args .vars) (q .before .before .loop .inv .0) (q .before .before .before .before .args .words .now) (q .before .before .before .before .args .at) (q .before .before .loop .inv .1) (sym (q .before .begins .ensures) ∙ q .if1 .taken) (c .before .before .before .before .read-action .ensures) (c .before .before .next .given .1)
 
 enum-known-next-2 : tie.Need-enum-known-next-2 Inv-loop μ-loop
 enum-known-next-2 c = search needs

@@ -87,10 +87,11 @@ returns-2 c =
 
 returns-3 : tie.Need-returns-3
 returns-3 c =
-    let s = c .before .before .before .before .before .before .before .before .before .before .before .args in
-    let (l, e, few) = taken (c .before .before .before .before .before) in
-    rw (count-is (c .before .before .before .before .before .before .before .before), counted-taken (s .kind .0) (s .most) (s .vars) (drop (s .at) (s .words .now)) (s .at) e)
-    (counted-is (s .vars) (c .before .before .before .before .before .before .before .before .before .before .before .pre .0) _ _ _ (rows-are (c .before .before .before .before)) (c .before .before .after2 .given .1))
+    let q = c .before .before .before .before in
+    let s = q .before .before .before .before .before .before .before .args in
+    let (l, e, few) = taken (q .before) in
+    rw (count-is (q .before .before .before .before), counted-taken (s .kind .0) (s .most) (s .vars) (drop (s .at) (s .words .now)) (s .at) e)
+    (counted-is (s .vars) (q .before .before .before .before .before .before .before .pre .0) _ _ _ (rows-are (q)) (c .before .before .after2 .given .1))
 
 pub read-counted-spec : {M : Type 1} → statement M
 read-counted-spec =

@@ -27,7 +27,9 @@ next-is c = c .read-word .ensures ∙ rw (c .before .literals-allowed .ensures, 
 
 turn-of : (c : tie.After-enum-told Inv-loop μ-loop) → let s = c .before .before .before .before .before .before .before .before .before .args in let l = c .before .before .before .before .before .before .before .loop in
     (l .k < 8) × (l .i < length (s .words .now)) × Loop SETS (combination (s .preds)) 8 forbiddenFrom (s .words .now) (s .at) (replicate 8 noLiterals) (set (l .literals) (l .k) (literalsOf (getD (s .words .now) (l .i) 0))) (l .i + 1) (l .k + 1)
-turn-of c = literals-turned (c .before .before .before .before .before .before .before .before .before .args .preds) (c .before .before .before .before .before .before .before .before .before .args .words .now) (c .before .before .before .before .before .before .before .before .before .args .at) (c .before .before .before .before .before .before .before .loop .inv .1) (sym (c .before .before .before .before .before .before .begins .ensures) ∙ c .before .before .before .before .before .if1 .taken) (sym (next-is (c .before .before)) ∙ c .enum-told .given .1)
+turn-of c =
+    let q = c .before .before .before .before .before in
+    literals-turned (q .before .before .before .before .args .preds) (q .before .before .before .before .args .words .now) (q .before .before .before .before .args .at) (q .before .before .loop .inv .1) (sym (q .before .begins .ensures) ∙ q .if1 .taken) (sym (next-is (c .before .before)) ∙ c .enum-told .given .1)
 
 loop-holds : tie.Need-loop-holds Inv-loop μ-loop
 loop-holds c = (search needs, begun SETS (combination _) 8 forbiddenFrom (c .before .args .words .now) (c .before .args .at) (replicate 8 noLiterals) (search needs))
@@ -51,7 +53,9 @@ no-forbidden-requires : tie.Need-no-forbidden-requires Inv-loop μ-loop
 no-forbidden-requires c κs = search needs
 
 returns : tie.Need-returns Inv-loop μ-loop
-returns c = c .no-forbidden .ensures ∙ forbidden-stopped (c .before .before .before .before .before .before .before .before .before .before .before .args .preds) (c .before .before .before .before .before .before .before .before .before .before .before .args .words .now) (c .before .before .before .before .before .before .before .before .before .before .before .args .at) (c .before .before .before .before .before .before .before .before .before .loop .inv .1) (sym (c .before .before .before .before .before .before .before .before .begins .ensures) ∙ c .before .before .before .before .before .before .before .if1 .taken) (sym (next-is (c .before .before .before .before)) ∙ c .before .before .next .given .1)
+returns c =
+    let q = c .before .before .before .before .before .before .before in
+    c .no-forbidden .ensures ∙ forbidden-stopped (q .before .before .before .before .args .preds) (q .before .before .before .before .args .words .now) (q .before .before .before .before .args .at) (q .before .before .loop .inv .1) (sym (q .before .begins .ensures) ∙ q .if1 .taken) (sym (next-is (c .before .before .before .before)) ∙ c .before .before .next .given .1)
 
 enum-told : tie.Need-enum-told Inv-loop μ-loop
 enum-told c = search needs

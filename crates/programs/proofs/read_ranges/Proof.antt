@@ -40,7 +40,9 @@ next-is c =
 
 turn-of : (c : tie.After-enum-told Inv-loop μ-loop) → let ws = c .before .before .before .before .before .before .before .before .before .before .before .before .args .words .now in let l = c .before .before .before .before .before .before .before .before .loop in
     (l .k < 8) × Loop VAR range 8 rangesFrom ws 0 zeroRanges (set (l .ranges) (l .k) (rangeOf (getD ws (l .k) 0))) (l .k + 1) (l .k + 1)
-turn-of c = range-turned (c .before .before .before .before .before .before .before .before .before .before .before .before .args .words .now) (c .before .before .before .before .before .before .before .before .loop .inv) (sym (c .before .before .before .before .before .before .before .begins2 .ensures) ∙ c .before .before .before .before .before .before .if2 .taken) (sym (next-is (c .before .before)) ∙ c .enum-told .given .1)
+turn-of c =
+    let q = c .before .before .before .before .before .before in
+    range-turned (q .before .before .before .before .before .before .args .words .now) (q .before .before .loop .inv) (sym (q .before .begins2 .ensures) ∙ q .if2 .taken) (sym (next-is (c .before .before)) ∙ c .enum-told .given .1)
 
 begins-requires : tie.Need-begins-requires Inv-loop μ-loop
 begins-requires c κs = search needs
@@ -76,7 +78,9 @@ no-ranges-requires-2 : tie.Need-no-ranges-requires-2 Inv-loop μ-loop
 no-ranges-requires-2 c κs = search needs
 
 returns-2 : tie.Need-returns-2 Inv-loop μ-loop
-returns-2 c = c .no-ranges2 .ensures ∙ ranges-stopped (c .before .before .before .before .before .before .before .before .before .before .before .before .before .before .args .words .now) (c .before .before .before .before .before .before .before .before .before .before .loop .inv) (sym (c .before .before .before .before .before .before .before .before .before .begins2 .ensures) ∙ c .before .before .before .before .before .before .before .before .if2 .taken) (sym (next-is (c .before .before .before .before)) ∙ c .before .before .next .given .1) ∙ sym (rw (many-is (c .before .before .before .before .before .before .before .before .before .before .before)) refl)
+returns-2 c =
+    let q = c .before .before .before .before .before .before .before .before in
+    c .no-ranges2 .ensures ∙ ranges-stopped (q .before .before .before .before .before .before .args .words .now) (q .before .before .loop .inv) (sym (q .before .begins2 .ensures) ∙ q .if2 .taken) (sym (next-is (c .before .before .before .before)) ∙ c .before .before .next .given .1) ∙ sym (rw (many-is (q .before .before .before)) refl)
 
 enum-told : tie.Need-enum-told Inv-loop μ-loop
 enum-told c = search needs
@@ -95,9 +99,10 @@ loop-less c = let b = turn-of c in omega arith
 
 loop-again : tie.Need-loop-again Inv-loop μ-loop
 loop-again c =
-    let fl : SFits w64 (c .before .before .before .before .low-end .result) = search needs in
-    let fh : SFits w64 (c .before .before .before .high-end .result) = search needs in
-    rw (toZ-ofZ fl, toZ-ofZ fh, c .before .before .before .before .low-end .ensures, c .before .before .before .high-end .ensures, c .before .before .before .before .before .word-at .ensures) (turn-of c .1)
+    let q = c .before .before .before in
+    let fl : SFits w64 (q .before .low-end .result) = search needs in
+    let fh : SFits w64 (q .high-end .result) = search needs in
+    rw (toZ-ofZ fl, toZ-ofZ fh, q .before .low-end .ensures, q .high-end .ensures, q .before .before .word-at .ensures) (turn-of c .1)
 
 returns-3 : tie.Need-returns-3 Inv-loop μ-loop
 returns-3 c = ranges-ended (c .before .before .before .before .before .before .args .words .now) (c .before .before .loop .inv) (sym (c .before .begins2 .ensures) ∙ c .if2 .left) ∙ sym (rw (many-is (c .before .before .before)) refl)

@@ -44,8 +44,9 @@ no-row-requires c κs = search needs
 
 returns : tie.Need-returns
 returns c =
-    let e = head-refused ROW always always constantAllowed (c .before .before .before .before .before .before .before .before .args .part .now) 0 (c .before .before .before .before .before .before .before .before .args .base) _ (sym (next-is (c .before .before .before .before)) ∙ c .before .before .next .given .1) in
-    c .no-row .ensures ∙ rw (row-refused (c .before .before .before .before .before .before .before .before .args .vars) (c .before .before .before .before .before .before .before .before .args .part .now) (c .before .before .before .before .before .before .before .before .args .base) e) refl
+    let f = c .before .before .before .before .before .before .before .before in
+    let e = head-refused ROW always always constantAllowed (f .args .part .now) 0 (f .args .base) _ (sym (next-is (c .before .before .before .before)) ∙ c .before .before .next .given .1) in
+    c .no-row .ensures ∙ rw (row-refused (f .args .vars) (f .args .part .now) (f .args .base) e) refl
 
 enum-told : tie.Need-enum-told
 enum-told c = search needs

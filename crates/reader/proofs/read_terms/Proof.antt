@@ -44,9 +44,10 @@ turn-of c =
 
 below : (c : tie.After-variable Inv-loop μ-loop) → c .variable .result < 8
 below c =
+    let q = c .before .before .before .before .before .before .before .before in
     let t = turn-of (c .before) in
-    let e : c .variable .result ≡ bits 27 24 (getD (c .before .before .before .before .before .before .before .before .before .before .args .part .now) (c .before .before .before .before .before .before .before .before .loop .i) 0) = c .variable .ensures ∙ rw (c .before .before .before .before .before .word-at .ensures) refl in
-    omega (arith, t .0, c .before .before .before .before .before .before .before .before .loop .inv .0)
+    let e : c .variable .result ≡ bits 27 24 (getD (q .before .before .args .part .now) (q .loop .i) 0) = c .variable .ensures ∙ rw (c .before .before .before .before .before .word-at .ensures) refl in
+    omega (arith, t .0, q .loop .inv .0)
 
 loop-holds : tie.Need-loop-holds Inv-loop μ-loop
 loop-holds c = (search needs, terms-begun _ _ _ (search needs))

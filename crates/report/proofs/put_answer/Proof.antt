@@ -99,12 +99,13 @@ same-length-2 c = search needs
 returns-2 : tie.Need-returns-2
 unfolding answerLines
 returns-2 c =
-    let v = c .before .before .before .before .before .before .before .before .before .before .before .answer2 .given in
-    let s = c .before .before .before .before .before .before .before .before .before .before .before .before .before .before .before in
+    let q = c .before .before .before .before .before .before in
+    let v = q .before .before .before .before .before .answer2 .given in
+    let s = q .before .before .before .before .before .before .before .before .before in
     let first = forbidLine (v .0 .0) (v .0 .1 .0) in
     let last = pathLine (stepsIn (s .args .path .now)) in
     let room : length (first ++ last) ≤ length (s .args .out .now) = rw (v .1) at (s .pre) in
-    rw (v .1) (then-put {a = first} (c .before .before .before .before .before .before .put-line2 .ensures) (c .before .before .put-path .ensures) (omega (arith, length-append first last)))
+    rw (v .1) (then-put {a = first} (q .put-line2 .ensures) (c .before .before .put-path .ensures) (omega (arith, length-append first last)))
 
 same-length-3 : tie.Need-same-length-3
 same-length-3 c = search needs
@@ -112,12 +113,13 @@ same-length-3 c = search needs
 returns-3 : tie.Need-returns-3
 unfolding answerLines
 returns-3 c =
-    let v = c .before .before .before .before .before .before .before .before .before .answer3 .given in
-    let s = c .before .before .before .before .before .before .before .before .before .before .before .before .before in
+    let q = c .before .before .before .before .before .before in
+    let v = q .before .before .before .answer3 .given in
+    let s = q .before .before .before .before .before .before .before in
     let first = runOffLine (v .0 .0) (v .0 .1 .0) (v .0 .1 .1 .0) (v .0 .1 .1 .1 .0) in
     let last = pathLine (stepsIn (s .args .path .now)) in
     let room : length (first ++ last) ≤ length (s .args .out .now) = rw (v .1) at (s .pre) in
-    rw (v .1) (then-put {a = first} (c .before .before .before .before .before .before .put-run-off .ensures) (c .before .before .put-path2 .ensures) (omega (arith, length-append first last)))
+    rw (v .1) (then-put {a = first} (q .put-run-off .ensures) (c .before .before .put-path2 .ensures) (omega (arith, length-append first last)))
 
 same-length-4 : tie.Need-same-length-4
 same-length-4 c = search needs

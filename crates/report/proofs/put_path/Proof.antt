@@ -35,10 +35,11 @@ same-length c = search needs
 returns : tie.Need-returns
 unfolding pathLine
 returns c =
-    let a = c .before .before .before .before .before .before .before .before .before .before .before .before .before .before .before .before .args in
+    let q = c .before .before .before .before .before .before .before in
+    let a = q .before .before .before .before .before .before .before .before .before .args in
     let all = length-path (stepsIn (a .path .now)) in
     let size = length-append (text "PATH") (stepText (stepsIn (a .path .now))) in
-    then-put (then-put (c .before .before .before .before .before .before .before .before .before .before .before .put-bytes .ensures) (c .before .before .before .before .before .before .before .put-steps .ensures) (omega arith)) (c .before .before .put-bytes2 .ensures) (omega arith)
+    then-put (then-put (q .before .before .before .before .put-bytes .ensures) (q .put-steps .ensures) (omega arith)) (c .before .before .put-bytes2 .ensures) (omega arith)
 
 pub put-path-spec : {M : Type 1} → statement M
 put-path-spec =

@@ -28,7 +28,9 @@ same-length : tie.Need-same-length
 same-length c = search needs
 
 returns : tie.Need-returns
-returns c = rw (words-read (c .before .before .before .before .before .before .before .before .before .before .before .args .input .now) (c .before .before .before .before .before .before .to-words .last .1 .0) _ (c .before .before .before .before .before .before .to-words .ensures)) at (c .before .before .put-words .ensures)
+returns c =
+    let q = c .before .before .before .before .before .before in
+    rw (words-read (q .before .before .before .before .before .args .input .now) (q .to-words .last .1 .0) _ (q .to-words .ensures)) at (c .before .before .put-words .ensures)
 
 pub put-show-spec : {M : Type 1} → statement M
 put-show-spec =

@@ -56,10 +56,11 @@ count-requires c κs = search needs
 
 put-field-requires : tie.Need-put-field-requires Inv-loop μ-loop
 put-field-requires c κs =
-    let l = c .before .before .before .before .before .before .before .before .loop in
-    let s = c .before .before .before .before .before .before .before .before .before .before .before in
+    let q = c .before .before .before in
+    let l = q .before .before .before .before .before .loop in
+    let s = q .before .before .before .before .before .before .before .before in
     let a = s .args in
-    step-fits (a .out .now) (a .at) (a .path .now) (l .out) (l .place) (l .i) (l .inv) (s .pre) (omega arith) (tested (c .before .before .before .before) ∙ not-false _ (c .before .before .before .if1 .left)) (c .count .result) (c .count .ensures)
+    step-fits (a .out .now) (a .at) (a .path .now) (l .out) (l .place) (l .i) (l .inv) (s .pre) (omega arith) (tested (q .before) ∙ not-false _ (q .if1 .left)) (c .count .result) (c .count .ensures)
 
 add-i : tie.Need-add-i Inv-loop μ-loop
 add-i c = search needs
@@ -69,10 +70,11 @@ loop-less c = search needs
 
 loop-again : tie.Need-loop-again Inv-loop μ-loop
 loop-again c =
-    let l = c .before .before .before .before .before .before .before .before .before .before .before .loop in
-    let s = c .before .before .before .before .before .before .before .before .before .before .before .before .before .before in
+    let q = c .before .before .before .before .before .before in
+    let l = q .before .before .before .before .before .loop in
+    let s = q .before .before .before .before .before .before .before .before in
     let a = s .args in
-    one-more (a .out .now) (a .at) (a .path .now) (l .out) (l .place) (l .i) (l .inv) (s .pre) (omega arith) (tested (c .before .before .before .before .before .before .before) ∙ not-false _ (c .before .before .before .before .before .before .if1 .left)) (c .before .before .before .count .result) (c .before .before .before .count .ensures) (c .before .before .put-field .ensures) (c .before .before .put-field .kept .0)
+    one-more (a .out .now) (a .at) (a .path .now) (l .out) (l .place) (l .i) (l .inv) (s .pre) (omega arith) (tested (q .before) ∙ not-false _ (q .if1 .left)) (c .before .before .before .count .result) (c .before .before .before .count .ensures) (c .before .before .put-field .ensures) (c .before .before .put-field .kept .0)
 
 same-length-2 : tie.Need-same-length-2 Inv-loop μ-loop
 same-length-2 c = search needs

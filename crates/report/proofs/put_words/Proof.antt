@@ -30,7 +30,9 @@ same-length : tie.Need-same-length
 same-length c = search needs
 
 returns : tie.Need-returns
-returns c = rw (at-the-end (c .before .before .before .before .before .before .before .before .before .args .words .now) (c .before .before .before .before .before .before .logic-length .result) (c .before .before .before .before .before .before .logic-length .ensures .0)) at (c .before .before .put-lists .ensures)
+returns c =
+    let q = c .before .before .before .before .before .before in
+    rw (at-the-end (q .before .before .before .args .words .now) (q .logic-length .result) (q .logic-length .ensures .0)) at (c .before .before .put-lists .ensures)
 
 pub put-words-spec : {M : Type 1} → statement M
 put-words-spec =

@@ -46,7 +46,9 @@ value-requires : tie.Need-value-requires Inv-loop μ-loop
 value-requires c κs = (c .before .before .before .pre .1 (c .before .before .loop .k), c .before .before .before .pre .2)
 
 returns : tie.Need-returns Inv-loop μ-loop
-returns c = all-stop (take (c .before .before .before .before .before .args .n) (c .before .before .before .before .before .args .t1)) (c .before .before .before .before .before .args .x) (c .before .before .before .before .loop .k) (inside (c .before .before .before)) (c .before .before .before .before .loop .inv .1) (rw (row-is (c .before .before .before)) (below-fails (rowValue (getD (c .before .before .before .before .before .args .t1) (c .before .before .before .before .loop .k) noRow) (c .before .before .before .before .before .args .x)) (rw (value-is (c .before)) at (c .if1 .taken))))
+returns c =
+    let q = c .before .before .before .before in
+    all-stop (take (q .before .args .n) (q .before .args .t1)) (q .before .args .x) (q .loop .k) (inside (c .before .before .before)) (q .loop .inv .1) (rw (row-is (c .before .before .before)) (below-fails (rowValue (getD (q .before .args .t1) (q .loop .k) noRow) (q .before .args .x)) (rw (value-is (c .before)) at (c .if1 .taken))))
 
 add-k : tie.Need-add-k Inv-loop μ-loop
 add-k c = search needs
@@ -55,7 +57,9 @@ loop-less : tie.Need-loop-less Inv-loop μ-loop
 loop-less c = search needs
 
 loop-again : tie.Need-loop-again Inv-loop μ-loop
-loop-again c = (omega arith, all-on (take (c .before .before .before .before .before .args .n) (c .before .before .before .before .before .args .t1)) (c .before .before .before .before .before .args .x) (c .before .before .before .before .loop .k) (inside (c .before .before .before)) (c .before .before .before .before .loop .inv .1) (rw (row-is (c .before .before .before)) (above-holds (rowValue (getD (c .before .before .before .before .before .args .t1) (c .before .before .before .before .loop .k) noRow) (c .before .before .before .before .before .args .x)) (rw (value-is (c .before)) at (c .if1 .left)))))
+loop-again c =
+    let q = c .before .before .before .before in
+    (omega arith, all-on (take (q .before .args .n) (q .before .args .t1)) (q .before .args .x) (q .loop .k) (inside (c .before .before .before)) (q .loop .inv .1) (rw (row-is (c .before .before .before)) (above-holds (rowValue (getD (q .before .args .t1) (q .loop .k) noRow) (q .before .args .x)) (rw (value-is (c .before)) at (c .if1 .left)))))
 
 returns-2 : tie.Need-returns-2 Inv-loop μ-loop
 returns-2 c = all-end (take (c .before .before .args .n) (c .before .before .args .t1)) (c .before .before .args .x) (c .before .loop .k) (rw (length-of (c .before .before)) (omega arith)) (c .before .loop .inv .1)

@@ -59,7 +59,9 @@ on-range-requires : tie.Need-on-range-requires Inv-loop μ-loop
 on-range-requires c κs = search needs
 
 returns : tie.Need-returns Inv-loop μ-loop
-returns c = lowest-stop (take (c .before .before .before .before .before .before .args .n) (c .before .before .before .before .before .before .args .t1)) (take (c .before .before .before .before .before .before .args .n) (c .before .before .before .before .before .before .args .t3)) (c .before .before .before .before .before .loop .v) (inside (c .before .before .before .before) .0) (inside (c .before .before .before .before) .1) (c .before .before .before .before .before .loop .inv .1) (sym (test-is (c .before)) ∙ not-true _ (c .if1 .taken))
+returns c =
+    let q = c .before .before .before .before in
+    lowest-stop (take (q .before .before .args .n) (q .before .before .args .t1)) (take (q .before .before .args .n) (q .before .before .args .t3)) (q .before .loop .v) (inside (q) .0) (inside (q) .1) (q .before .loop .inv .1) (sym (test-is (c .before)) ∙ not-true _ (c .if1 .taken))
 
 add-v : tie.Need-add-v Inv-loop μ-loop
 add-v c = search needs
@@ -68,7 +70,9 @@ loop-less : tie.Need-loop-less Inv-loop μ-loop
 loop-less c = search needs
 
 loop-again : tie.Need-loop-again Inv-loop μ-loop
-loop-again c = (omega arith, lowest-on (take (c .before .before .before .before .before .before .args .n) (c .before .before .before .before .before .before .args .t1)) (take (c .before .before .before .before .before .before .args .n) (c .before .before .before .before .before .before .args .t3)) (c .before .before .before .before .before .loop .v) (inside (c .before .before .before .before) .0) (inside (c .before .before .before .before) .1) (c .before .before .before .before .before .loop .inv .1) (sym (test-is (c .before)) ∙ not-false _ (c .if1 .left)))
+loop-again c =
+    let q = c .before .before .before .before in
+    (omega arith, lowest-on (take (q .before .before .args .n) (q .before .before .args .t1)) (take (q .before .before .args .n) (q .before .before .args .t3)) (q .before .loop .v) (inside (q) .0) (inside (q) .1) (q .before .loop .inv .1) (sym (test-is (c .before)) ∙ not-false _ (c .if1 .left)))
 
 returns-2 : tie.Need-returns-2 Inv-loop μ-loop
 returns-2 c = lowest-end (take (c .before .before .args .n) (c .before .before .args .t1)) (take (c .before .before .args .n) (c .before .before .args .t3)) (c .before .loop .v) (rw (lengths (c .before .before) .0) (omega arith)) (c .before .loop .inv .1)

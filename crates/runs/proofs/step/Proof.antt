@@ -31,7 +31,10 @@ off-is : (c : tie.After-lowest-off) → let g = c .before .before .before .befor
 off-is c = rw (c .before .widened .ensures) at (c .lowest-off .ensures)
 
 tried-at : (c : tie.After-read-action) → Tried (c .before .before .before .before .before .before .before .before .before .before .before .before .before .before .args .words .now) (held-at (c .before .before .before .before .before .before .before .before .before .before)) (c .before .before .before .before .before .before .before .before .before .before .before .before .before .before .args .k) (c .before .before .before .before .before .before .before .before .before .before .before .before .before .before .args .state .now) (c .before .before .before .before .before .before .before .before .if1 .left) (c .before .before .before .before .before .before .before .if2 .left) (off-is (c .before .before .before)) (c .before .before .if3 .left) (c .read-action .result)
-tried-at c = step-tried (c .before .before .before .before .before .before .before .before .before .before .before .before .before .before .args .words .now) (held-at (c .before .before .before .before .before .before .before .before .before .before)) (c .before .before .before .before .before .before .before .before .before .before .before .before .before .before .args .k) (c .before .before .before .before .before .before .before .before .before .before .before .before .before .before .args .state .now) (c .before .before .before .before .before .before .before .before .if1 .left) (c .before .before .before .before .before .before .before .if2 .left) (off-is (c .before .before .before)) (c .before .before .if3 .left) (c .read-action .ensures)
+tried-at c =
+    let q = c .before .before .before .before .before .before .before in
+    let f = q .before .before .before .before .before .before .before in
+    step-tried (f .args .words .now) (held-at (q .before .before .before)) (f .args .k) (f .args .state .now) (q .before .if1 .left) (q .if2 .left) (off-is (c .before .before .before)) (c .before .before .if3 .left) (c .read-action .ensures)
 
 load-requires : tie.Need-load-requires
 load-requires c κs = search needs
@@ -40,16 +43,22 @@ enum-known-status : tie.Need-enum-known-status
 enum-known-status c = search needs
 
 returns : tie.Need-returns
-returns c = both (step-refused (read (c .before .before .before .before .before .args .words .now)) (c .before .before .before .before .before .args .k) (c .before .before .before .before .before .args .state .now) (c .before .before .before .load .ensures) (c .before .status .given .1))
+returns c =
+    let f = c .before .before .before .before .before in
+    both (step-refused (read (f .args .words .now)) (f .args .k) (f .args .state .now) (c .before .before .before .load .ensures) (c .before .status .given .1))
 
 enum-told : tie.Need-enum-told
 enum-told c = search needs
 
 returns-2 : tie.Need-returns-2
-returns-2 c = both (step-absent (c .before .before .before .before .before .before .args .words .now) (held-at (c .before .before)) (c .before .before .before .before .before .before .args .k) (c .before .before .before .before .before .before .args .state .now) (c .if1 .taken))
+returns-2 c =
+    let f = c .before .before .before .before .before .before in
+    both (step-absent (f .args .words .now) (held-at (c .before .before)) (f .args .k) (f .args .state .now) (c .if1 .taken))
 
 returns-3 : tie.Need-returns-3
-returns-3 c = both (step-length (c .before .before .before .before .before .before .before .args .words .now) (held-at (c .before .before .before)) (c .before .before .before .before .before .before .before .args .k) (c .before .before .before .before .before .before .before .args .state .now) (c .before .if1 .left) (c .if2 .taken))
+returns-3 c =
+    let f = c .before .before .before .before .before .before .before in
+    both (step-length (f .args .words .now) (held-at (c .before .before .before)) (f .args .k) (f .args .state .now) (c .before .if1 .left) (c .if2 .taken))
 
 widened-requires : tie.Need-widened-requires
 widened-requires c κs = let f = few-at (c .before .before .before .before .before) in omega (arith, c .before .before .if2 .left)
@@ -61,7 +70,10 @@ same-length : tie.Need-same-length
 same-length c = search needs
 
 returns-4 : tie.Need-returns-4
-returns-4 c = both (step-off (c .before .before .before .before .before .before .before .before .before .before .before .before .args .words .now) (held-at (c .before .before .before .before .before .before .before .before)) (c .before .before .before .before .before .before .before .before .before .before .before .before .args .k) (c .before .before .before .before .before .before .before .before .before .before .before .before .args .state .now) (c .before .before .before .before .before .before .if1 .left) (c .before .before .before .before .before .if2 .left) (off-is (c .before)) (c .if3 .taken))
+returns-4 c =
+    let q = c .before .before .before .before .before in
+    let f = q .before .before .before .before .before .before .before in
+    both (step-off (f .args .words .now) (held-at (q .before .before .before)) (f .args .k) (f .args .state .now) (q .before .if1 .left) (q .if2 .left) (off-is (c .before)) (c .if3 .taken))
 
 mul-at : tie.Need-mul-at
 mul-at c = let f = found-at (c .before .before .before .before .before .before) in omega (arith, f .small)
@@ -74,9 +86,10 @@ read-action-requires c κs = let f = found-at (c .before .before .before .before
 
 take-action-requires : tie.Need-take-action-requires
 take-action-requires c κs =
+    let q = c .before .before .before .before .before in
     let t = tried-at (c .before) in
-    let f = few-at (c .before .before .before .before .before .before .before .before .before .before .before) in
-    (omega (arith, c .before .before .before .before .before .before .before .before .if2 .left), t .guards-few, t .guards-good, t .rows-good, rw (c .before .before .before .before .before .widened .ensures) (t .state-good), t .ranges-good)
+    let f = few-at (q .before .before .before .before .before .before) in
+    (omega (arith, q .before .before .before .if2 .left), t .guards-few, t .guards-good, t .rows-good, rw (q .widened .ensures) (t .state-good), t .ranges-good)
 
 same-length-2 : tie.Need-same-length-2
 same-length-2 c = search needs

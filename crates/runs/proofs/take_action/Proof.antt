@@ -42,19 +42,21 @@ returns-2 c =
 
 write-requires : tie.Need-write-requires
 write-requires c κs =
-    let s = c .before .before .before .before .before .before .before .before .args in
+    let f = c .before .before .before .before .before .before .before .before in
+    let s = f .args in
     let l : length (s .ranges) ≡ 8 = search needs in
-    (c .before .before .before .before .before .before .before .before .pre .0, λ v h. rw (c .before .before .before .values .ensures) (written-fits (s .ranges) (map (λ r. rowValue r (s .old)) (s .action .rows)) (length (s .state .now)) (c .before .before .before .before .before .before .before .before .pre .5) (omega (arith, c .before .before .before .before .before .before .before .before .pre .0)) (rw (off-is (c .before .before)) at (c .before .if2 .left)) v h))
+    (f .pre .0, λ v h. rw (c .before .before .before .values .ensures) (written-fits (s .ranges) (map (λ r. rowValue r (s .old)) (s .action .rows)) (length (s .state .now)) (f .pre .5) (omega (arith, f .pre .0)) (rw (off-is (c .before .before)) at (c .before .if2 .left)) v h))
 
 same-length : tie.Need-same-length
 same-length c = search needs
 
 returns-3 : tie.Need-returns-3
 returns-3 c =
-    let s = c .before .before .before .before .before .before .before .before .before .before .args in
+    let q = c .before .before .before in
+    let s = q .before .before .before .before .before .before .before .args in
     let n = length (s .state .now) in
-    let h : n ≤ lowestOff (take (length (s .state .now)) (s .ranges)) (take (length (s .state .now)) (map (λ r. rowValue r (s .old)) (s .action .rows))) = rw (off-is (c .before .before .before .before)) at (c .before .before .before .if2 .left) in
-    rw (on-is (c .before .before .before .before .before .before .before), le-ltb (lowestOff (take (length (s .state .now)) (s .ranges)) (take (length (s .state .now)) (map (λ r. rowValue r (s .old)) (s .action .rows)))) n h) (refl, rw (c .before .before .before .before .before .values .ensures) at (c .before .write .ensures))
+    let h : n ≤ lowestOff (take (length (s .state .now)) (s .ranges)) (take (length (s .state .now)) (map (λ r. rowValue r (s .old)) (s .action .rows))) = rw (off-is (q .before)) at (q .if2 .left) in
+    rw (on-is (q .before .before .before .before), le-ltb (lowestOff (take (length (s .state .now)) (s .ranges)) (take (length (s .state .now)) (map (λ r. rowValue r (s .old)) (s .action .rows)))) n h) (refl, rw (q .before .before .values .ensures) at (c .before .write .ensures))
 
 pub take-action-spec : {M : Type 1} → statement M
 take-action-spec =

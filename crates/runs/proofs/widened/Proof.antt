@@ -46,12 +46,13 @@ loop-less c = search needs
 
 loop-again : tie.Need-loop-again Inv-loop μ-loop
 loop-again c =
-    let s = c .before .before .before .before .args .state .now in
-    let v = c .before .before .before .loop .v in
+    let q = c .before .before .before in
+    let s = q .before .args .state .now in
+    let v = q .loop .v in
     let f : SFits w64 (c .wide .result) = search needs in
     let g : SFits w32 (getD s v (pos 0)) = search needs in
     let e : toZ w64 (ofZ w64 (c .wide .result)) ≡ getD s v (pos 0) = toZ-ofZ f ∙ rw (toZ-ofZ g) at (c .wide .ensures) in
-    (omega arith, c .before .before .before .loop .inv .1, rw e (copied-next (c .before .before .before .loop .x) (pos 0) (replicate (8 - (v + 1)) (pos 0)) v s (omega arith) (c .before .before .before .loop .inv .2 ∙ rw (zeros-cons 8 v (omega arith)) refl)))
+    (omega arith, q .loop .inv .1, rw e (copied-next (q .loop .x) (pos 0) (replicate (8 - (v + 1)) (pos 0)) v s (omega arith) (q .loop .inv .2 ∙ rw (zeros-cons 8 v (omega arith)) refl)))
 
 returns : tie.Need-returns Inv-loop μ-loop
 returns c =

@@ -52,18 +52,19 @@ loop-less c = simp length-set (omega arith)
 
 loop-again : tie.Need-loop-again Inv-loop μ-loop
 loop-again c =
-    let s = c .before .before .before .before .args .state .now in
-    let x = c .before .before .before .before .args .t2 in
-    let v = c .before .before .before .loop .v in
-    let g = c .before .before .before .loop .state in
+    let q = c .before .before .before in
+    let s = q .before .args .state .now in
+    let x = q .before .args .t2 in
+    let v = q .loop .v in
+    let g = q .loop .state in
     let l : length x ≡ 8 = search needs in
     let f : SFits w64 (getD x v (pos 0)) = search needs in
     let h : SFits w32 (c .narrow .result) = search needs in
     let e : toZ w32 (ofZ w32 (c .narrow .result)) ≡ getD x v (pos 0) = toZ-ofZ h ∙ rw (toZ-ofZ f) at (c .narrow .ensures) in
     let more : drop v s ≡ getD s v (pos 0) ∷ drop (v + 1) s = rw (add-one v) (drop-cons s v (pos 0) (omega arith)) in (
       omega arith,
-      length-set g v (toZ w32 (ofZ w32 (c .narrow .result))) ∙ c .before .before .before .loop .inv .1,
-      rw e (copied-next g (getD s v (pos 0)) (drop (v + 1) s) v x (omega arith) (c .before .before .before .loop .inv .2 ∙ ap (λ (y : List ℤ). take v x ++ y) more)),
+      length-set g v (toZ w32 (ofZ w32 (c .narrow .result))) ∙ q .loop .inv .1,
+      rw e (copied-next g (getD s v (pos 0)) (drop (v + 1) s) v x (omega arith) (q .loop .inv .2 ∙ ap (λ (y : List ℤ). take v x ++ y) more)),
     )
 
 same-length : tie.Need-same-length Inv-loop μ-loop

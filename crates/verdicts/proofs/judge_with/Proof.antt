@@ -26,7 +26,9 @@ slice-aggregate-with-lists-2 : tie.Need-slice-aggregate-with-lists-2
 slice-aggregate-with-lists-2 c = sym (length-take-le _ (c .before .before .space2 .result) (omega arith))
 
 with-lists-requires : tie.Need-with-lists-requires
-with-lists-requires c κs = let g : length (take (c .before .before .before .before .before .before .before .before .args .graph-words) (c .before .before .before .space .result)) ≡ c .before .before .before .before .before .before .before .before .args .graph-words = length-take-le _ (c .before .before .before .space .result) (omega arith) in (omega arith, omega (arith, slice-aggregate-with-lists-2 c))
+with-lists-requires c κs =
+    let q = c .before .before .before in
+    let g : length (take (q .before .before .before .before .before .args .graph-words) (q .space .result)) ≡ q .before .before .before .before .before .args .graph-words = length-take-le _ (q .space .result) (omega arith) in (omega arith, omega (arith, slice-aggregate-with-lists-2 c))
 
 returns : tie.Need-returns
 returns c = search needs
