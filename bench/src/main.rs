@@ -206,7 +206,7 @@ fn main() {
     };
     println!("Processor time, least average of {ROUNDS} rounds; the two sides take turns. The lent lists are not cleared between calls:");
     println!("each call finds what the last one left. Growth: library time over that of the row before. Ask: the last lemma.");
-    println!("Step moves. Slowest and steepest: 512 nodes, 16 actions, 512 accepted lemmas, the arrangement of 12 that takes");
+    println!("Step moves. Slowest and steepest: 512 nodes, 16 actions, 512 accepted lemmas, the arrangement of 20 that takes");
     println!("the library longest, and the one with the highest ratio.");
     Table::head();
     for (place, nodes) in [1, 64, 128, 256, 512].into_iter().enumerate() {

@@ -90,11 +90,11 @@ fn find(graph: &[u32], n: usize, actions: usize, w: u32) -> usize
     at
 }
 
-// Where the table of hints speaks of the word w.
+// Where the table of hints speaks of the word w. Any factor would do; with this one few sets of literals share a place.
 fn slot(w: u32) -> usize
     ensures { λ r. ⌜ r < slots ⌝ }
 {
-    (w as u64 * 2654435761 / 1048576 % 4096) as usize
+    (w as u64 * 3116128017 / 1048576 % 4096) as usize
 }
 
 // The same, asking first where the hints say; they may say anything. Where all words differ, a word that is found is found first.
