@@ -2,7 +2,7 @@
 --     stored-reached, reached-stored     the stored words are exactly the reached ones
 --     stored-once                        no word is stored twice
 --     edge-is                            edge (i, j) is the number at which next (word i) j stands, none exactly if there is none
---     at-most, over, over-only           it is over exactly if there are more than limit distinct reached words
+--     at-most, over                      it is over exactly if there are more than limit distinct reached words
 --     comes                              node 0 is the start's; any other has a parent with a smaller number, whose action is the first that leads to it
 use Prim.Native.Nat.{ℕ, suc, _*_, _<_, _≤_}
 use native.Mathlib.Omega.{arith}
@@ -11,7 +11,7 @@ use mathlib.Core.Path.{_≡_, refl, sym, _∙_}
 use mathlib.Core.Logic.{_↔_}
 use mathlib.Core.List.{List}
 use lib.ListN.{length}
-use Rattle.search.specs.Search.{Answer, To, None, Graph, Result, Done, Over, seek, explored, count, nodeWord, origin, edge, numbered}
+use Rattle.search.specs.Search.{Answer, To, None, Graph, Done, Over, seek, explored, count, nodeWord, origin, edge, numbered}
 use Rattle.search.proofs.Reach.{Reach, first, onward, Distinct, AllOf, Many}
 use Rattle.search.proofs.Count.{row-below, seek-found, seek-le, no-more}
 use Rattle.search.proofs.Sound.{Begins, Comes, Leads, Sound, Out, explored-holds}
@@ -130,10 +130,3 @@ module _ (start : Answer) (next : ℕ → ℕ → Answer) (a limit : ℕ) where
       at-most = at-most;
       comes = comes;
     }
-
-  over-if : (r : Result) → explored next a limit start ≡ r → Many (Reach start next a) (suc limit) → r ≡ Over
-  over-if (Done g) e m = absurd (let h = whole g e .at-most (m .list) (m .distinct) (m .all) in omega (arith, m .size))
-  over-if Over e m = refl
-
-  pub over-only : Many (Reach start next a) (suc limit) → explored next a limit start ≡ Over
-  over-only m = over-if (explored next a limit start) refl m
