@@ -6,7 +6,7 @@ ghost use Rattle.words.specs.Words.{word, SETS};
 ghost use Rattle.gather.specs.Gathering.{entries, successorOf};
 ghost use Rattle.search.specs.Search.{To, From, answered, turns, explored};
 ghost use Rattle.records.specs.Records.{mostNodes, graphWords, graphList, exploredOf};
-ghost use Rattle.records.specs.Steps.{slots, Turned, Filled};
+ghost use Rattle.records.specs.Steps.{hintCount, Turned, Filled};
 ghost use Rattle.graph.specs.Graph.{answerOf, nextOf, graphOf};
 use gather::Successor;
 use records::Explored;
@@ -30,7 +30,7 @@ fn act(
     j: usize,
     shown: u64,
 ) -> Explored
-    requires { ⌜ (graphWords ≤ length (now graph)) × (slots ≤ length (now hints)) × (nodes ≤ mostNodes) × (actions ≤ 16) × (k < nodes) × (j < actions) × (edges ≤ k * actions + j) ⌝ }
+    requires { ⌜ (graphWords ≤ length (now graph)) × (hintCount ≤ length (now hints)) × (nodes ≤ mostNodes) × (actions ≤ 16) × (k < nodes) × (j < actions) × (edges ≤ k * actions + j) ⌝ }
     ensures { λ r. ⌜ Turned (λ h. answered mostNodes h (From k j) (answerOf (successorOf shown))) (now (graph .entry)) actions nodes edges (k * actions + j) r (now (graph .exit)) (k * actions + j + 1) ⌝ }
 {
     let next = gather::successor_of(shown);
@@ -55,7 +55,7 @@ fn turn(
     actions: usize,
     k: usize,
 ) -> Explored
-    requires { ⌜ (n ≤ length (now premises)) × (n ≤ length (now keys)) × (graphWords ≤ length (now graph)) × (slots ≤ length (now hints)) × (nodes ≤ mostNodes) × (actions ≤ 16) × (k < nodes) × (edges ≤ k * actions) ⌝ }
+    requires { ⌜ (n ≤ length (now premises)) × (n ≤ length (now keys)) × (graphWords ≤ length (now graph)) × (hintCount ≤ length (now hints)) × (nodes ≤ mostNodes) × (actions ≤ 16) × (k < nodes) × (edges ≤ k * actions) ⌝ }
     ensures { λ r. ⌜ Turned (λ h. turns (nextOf (entries (now (premises .entry)) (now (keys .entry)) n)) mostNodes h k actions) (now (graph .entry)) actions nodes edges (k * actions) r (now (graph .exit)) (k * actions + actions) ⌝ }
 {
     let node = records::word_at(&graph[..], actions, k);
@@ -85,7 +85,7 @@ fn explore_from(
     actions: usize,
     start: u32,
 ) -> Explored
-    requires { ⌜ (n ≤ length (now premises)) × (n ≤ length (now keys)) × (graphWords ≤ length (now graph)) × (slots ≤ length (now hints)) × (actions ≤ 16) ⌝ }
+    requires { ⌜ (n ≤ length (now premises)) × (n ≤ length (now keys)) × (graphWords ≤ length (now graph)) × (hintCount ≤ length (now hints)) × (actions ≤ 16) ⌝ }
     ensures { λ r. ⌜ Filled actions (explored (nextOf (entries (now (premises .entry)) (now (keys .entry)) n)) actions mostNodes (To start)) r (now (graph .entry)) (now (graph .exit)) ⌝ }
 {
     records::begin(&mut *graph, start);

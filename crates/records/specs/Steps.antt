@@ -1,7 +1,7 @@
 -- What the steps of a search do to the list that it writes the records in.
 --
 -- column — word c of each of the first n records
--- slots  — how many hints there are: guesses where a word stands
+-- hintCount  — how many hints there are: guesses where a word stands
 -- Firsts — each word of a list is first found where it stands
 -- Kept   — the list, which was l₀, begins with the n nodes of g, has its e edges, of which x lead to a node, no word twice, and behind the n records is l₀
 -- Mid    — the same of a result and an answer
@@ -21,8 +21,8 @@ unfoldable pub column : List ℕ → ℕ → ℕ → ℕ → List ℕ
 column l a c zero = []
 column l a c (suc n) = column l a c n ++ (getD l (recordPlace a n + c) 0 ∷ [])
 
-abbrev pub slots : ℕ
-slots = 4096
+abbrev pub hintCount : ℕ
+hintCount = 4096
 
 abbrev pub Firsts : List ℕ → Type 0
 Firsts ws = (i : ℕ) → i < length ws → seek (getD ws i 0) ws ≡ i

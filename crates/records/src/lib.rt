@@ -5,7 +5,7 @@ ghost use Prim.Native.Nat.{_+_, _*_, _<_, _≤_};
 ghost use lib.ListN.{length, drop, getD, set, replicate};
 ghost use Rattle.search.specs.Search.{To, None, Root, From, seek, answered};
 ghost use Rattle.records.specs.Records.{edgeWord, originWord, mostNodes, graphWords, stride, recordPlace, edgePlace};
-ghost use Rattle.records.specs.Steps.{column, slots, Firsts, Turned};
+ghost use Rattle.records.specs.Steps.{column, hintCount, Firsts, Turned};
 use words::Kind;
 
 // What a search answers.
@@ -91,18 +91,18 @@ fn find(graph: &[u32], n: usize, actions: usize, w: u32) -> usize
 }
 
 // Where the table of hints speaks of the word w. Any factor would do; with this one few sets of literals share a place.
-fn slot(w: u32) -> usize
-    ensures { λ r. ⌜ r < slots ⌝ }
+fn hint_place(w: u32) -> usize
+    ensures { λ r. ⌜ r < hintCount ⌝ }
 {
     (w as u64 * 3116128017 / 1048576 % 4096) as usize
 }
 
 // The same, asking first where the hints say; they may say anything. Where all words differ, a word that is found is found first.
 fn find_near(graph: &[u32], hints: &[u16], n: usize, actions: usize, w: u32) -> usize
-    requires { ⌜ (graphWords ≤ length (now graph)) × (slots ≤ length (now hints)) × (n ≤ mostNodes) × (actions ≤ 16) ⌝ }
+    requires { ⌜ (graphWords ≤ length (now graph)) × (hintCount ≤ length (now hints)) × (n ≤ mostNodes) × (actions ≤ 16) ⌝ }
     ensures { λ r. ⌜ (Firsts (column (now (graph .entry)) actions 0 n) → r ≡ seek w (column (now (graph .entry)) actions 0 n)) ⌝ }
 {
-    let h = (hints[slot(w)] % 512) as usize;
+    let h = (hints[hint_place(w)] % 512) as usize;
     if h < n {
         if graph[h * (HEADER + actions)] == w {
             return h;
@@ -157,12 +157,12 @@ pub fn enter(
     j: usize,
     w: u32,
 ) -> Explored
-    requires { ⌜ (graphWords ≤ length (now graph)) × (slots ≤ length (now hints)) × (nodes ≤ mostNodes) × (actions ≤ 16) × (k < nodes) × (j < actions) × (edges ≤ k * actions + j) ⌝ }
+    requires { ⌜ (graphWords ≤ length (now graph)) × (hintCount ≤ length (now hints)) × (nodes ≤ mostNodes) × (actions ≤ 16) × (k < nodes) × (j < actions) × (edges ≤ k * actions + j) ⌝ }
     ensures turn { λ r. ⌜ Turned (λ h. answered mostNodes h (From k j) (To w)) (now (graph .entry)) actions nodes edges (k * actions + j) r (now (graph .exit)) (k * actions + j + 1) ⌝ }
-    ensures hints { λ _. ⌜ slots ≤ length (now (hints .exit)) ⌝ }
+    ensures hints { λ _. ⌜ hintCount ≤ length (now (hints .exit)) ⌝ }
 {
     let at = find_near(&graph[..], &hints[..], nodes, actions, w);
-    let known = slot(w);
+    let known = hint_place(w);
     hints[known] = (at % 512) as u16;
     let place = edge_place(actions, k, j);
     if at < nodes {

@@ -10,8 +10,8 @@ use Rattle.records.proofs.enter.Tie as tie
 find-near-requires : tie.Need-find-near-requires
 find-near-requires c κs = search needs
 
-slot-requires : tie.Need-slot-requires
-slot-requires c κs = search needs
+hint-place-requires : tie.Need-hint-place-requires
+hint-place-requires c κs = search needs
 
 cast-hints : tie.Need-cast-hints
 cast-hints c = search needs
@@ -122,7 +122,7 @@ enter-spec =
     tie.close
     (tie.spec
     find-near-requires
-    slot-requires
+    hint-place-requires
     cast-hints
     mul-hints
     slice-write-hints

@@ -4,8 +4,8 @@ use borrow.Author.Needs.{needs}
 use Rattle.records.proofs.find_near.Statement.{statement}
 use Rattle.records.proofs.find_near.Tie as tie
 
-slot-requires : tie.Need-slot-requires
-slot-requires c κs = search needs
+hint-place-requires : tie.Need-hint-place-requires
+hint-place-requires c κs = search needs
 
 mul-h : tie.Need-mul-h
 mul-h c = search needs
@@ -45,7 +45,7 @@ pub find-near-spec : {M : Type 1} → statement M
 find-near-spec =
     tie.close
     (tie.spec
-    slot-requires
+    hint-place-requires
     mul-h
     shared-slice-read-h
     cast-h
