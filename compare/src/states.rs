@@ -2,7 +2,7 @@
 //! holds accepted lemmas and the verdict safe to them.
 
 use independent::lemma::{Goal, Lemma, Source};
-use independent::program::{Literals, Program};
+use independent::program::{Action, Literals, Program};
 
 /// What an enabled action does at a state.
 struct Move {
@@ -51,35 +51,41 @@ fn meets(literals: &Literals, truths: u32) -> bool {
     literals.known_true & !truths == 0 && literals.known_false & truths == 0
 }
 
-/// `accepted` are the lemmas that the library accepts; `safe` is its verdict.
-pub fn walk(program: &Program, states: usize, accepted: &[&Lemma], safe: bool) -> Result<Walk, String> {
-    let actions = program.actions.len();
-    let mut moves: Vec<Option<Move>> = Vec::with_capacity(states * actions);
-    let mut predicates = Vec::with_capacity(states);
-    let mut starts = Vec::with_capacity(states);
+/// What all states of the ranges are, and what each action does at each.
+struct States {
+    predicates: Vec<u32>,
+    starts: Vec<bool>,
+    /// At state s and action a: s * actions + a.
+    moves: Vec<Option<Move>>,
+}
+
+/// What the action does at the state, where it is enabled.
+fn moved(program: &Program, action: &Action, state: &[i64]) -> Option<Move> {
+    if !action.guards.iter().all(|r| value(r, state) >= 0) {
+        return None;
+    }
+    let mut new = state.to_vec();
+    for assignment in &action.assignments {
+        new[assignment.variable] = value(&assignment.row, state);
+    }
+    let mut it = Move { predicates: truths(program, &new), below: 0, above: 0, next: 0 };
+    for (v, range) in program.ranges.iter().enumerate().rev() {
+        it.below |= u32::from(new[v] < range.low) << v;
+        it.above |= u32::from(new[v] > range.high) << v;
+        if it.below | it.above == 0 {
+            it.next = it.next * (range.high - range.low + 1) as usize + (new[v] - range.low) as usize;
+        }
+    }
+    Some(it)
+}
+
+fn all(program: &Program, states: usize) -> States {
+    let mut all = States { predicates: Vec::new(), starts: Vec::new(), moves: Vec::new() };
     let mut state: Vec<i64> = program.ranges.iter().map(|r| r.low).collect();
     for _ in 0..states {
-        predicates.push(truths(program, &state));
-        starts.push(program.start.iter().all(|r| value(r, &state) >= 0));
-        for action in &program.actions {
-            if !action.guards.iter().all(|r| value(r, &state) >= 0) {
-                moves.push(None);
-                continue;
-            }
-            let mut new = state.clone();
-            for assignment in &action.assignments {
-                new[assignment.variable] = value(&assignment.row, &state);
-            }
-            let mut it = Move { predicates: truths(program, &new), below: 0, above: 0, next: 0 };
-            for (v, range) in program.ranges.iter().enumerate().rev() {
-                it.below |= u32::from(new[v] < range.low) << v;
-                it.above |= u32::from(new[v] > range.high) << v;
-                if it.below | it.above == 0 {
-                    it.next = it.next * (range.high - range.low + 1) as usize + (new[v] - range.low) as usize;
-                }
-            }
-            moves.push(Some(it));
-        }
+        all.predicates.push(truths(program, &state));
+        all.starts.push(program.start.iter().all(|r| value(r, &state) >= 0));
+        all.moves.extend(program.actions.iter().map(|action| moved(program, action, &state)));
         for (v, range) in program.ranges.iter().enumerate() {
             if state[v] < range.high {
                 state[v] += 1;
@@ -88,44 +94,41 @@ pub fn walk(program: &Program, states: usize, accepted: &[&Lemma], safe: bool) -
             state[v] = range.low;
         }
     }
+    all
+}
 
-    // An accepted lemma is true at every state of the ranges.
-    for (number, lemma) in accepted.iter().enumerate() {
-        for s in 0..states {
-            if !meets(&lemma.premises, predicates[s]) {
-                continue;
-            }
-            let start = Move { predicates: predicates[s], below: 0, above: 0, next: s };
-            let after = match lemma.source {
-                Source::Start if starts[s] => Some(&start),
-                Source::Start => None,
-                Source::Action(a) => moves[s * actions + a].as_ref(),
-            };
-            let Some(after) = after else { continue };
-            let holds = match lemma.goal {
-                Goal::Cannot => false,
-                Goal::Holds(p) => after.predicates >> p & 1 == 1,
-                Goal::Fails(p) => after.predicates >> p & 1 == 0,
-                Goal::NotBelow(v) => after.below >> v & 1 == 0,
-                Goal::NotAbove(v) => after.above >> v & 1 == 0,
-            };
-            if !holds {
-                return Err(format!("accepted lemma {number} of the accepted ones is false at state {s}: {lemma:?}"));
-            }
+/// The first state at which the lemma is false.
+fn refuted(all: &States, actions: usize, lemma: &Lemma) -> Option<usize> {
+    (0..all.starts.len()).find(|&s| {
+        let start = Move { predicates: all.predicates[s], below: 0, above: 0, next: s };
+        let after = match lemma.source {
+            Source::Start => Some(&start).filter(|_| all.starts[s]),
+            Source::Action(a) => all.moves[s * actions + a].as_ref(),
+        };
+        let Some(after) = after.filter(|_| meets(&lemma.premises, all.predicates[s])) else { return false };
+        !match lemma.goal {
+            Goal::Cannot => false,
+            Goal::Holds(p) => after.predicates >> p & 1 == 1,
+            Goal::Fails(p) => after.predicates >> p & 1 == 0,
+            Goal::NotBelow(v) => after.below >> v & 1 == 0,
+            Goal::NotAbove(v) => after.above >> v & 1 == 0,
         }
-    }
+    })
+}
 
-    // After safe, no run meets a forbidden state or runs off.
-    let mut seen = starts.clone();
-    let mut list: Vec<usize> = (0..states).filter(|s| starts[*s]).collect();
+/// No run meets a forbidden state or runs off: hands back how many states runs reach.
+fn reached(program: &Program, all: &States) -> Result<usize, String> {
+    let actions = program.actions.len();
+    let mut seen = all.starts.clone();
+    let mut list: Vec<usize> = (0..seen.len()).filter(|s| seen[*s]).collect();
     let mut at = 0;
-    while safe && at < list.len() {
+    while at < list.len() {
         let s = list[at];
         at += 1;
-        if let Some(b) = program.forbidden.iter().position(|c| meets(c, predicates[s])) {
+        if let Some(b) = program.forbidden.iter().position(|c| meets(c, all.predicates[s])) {
             return Err(format!("safe, but the reachable state {s} meets combination {b}"));
         }
-        for (a, it) in moves[s * actions..(s + 1) * actions].iter().enumerate() {
+        for (a, it) in all.moves[s * actions..(s + 1) * actions].iter().enumerate() {
             let Some(it) = it else { continue };
             if it.below | it.above != 0 {
                 return Err(format!("safe, but action {a} runs off at the reachable state {s}"));
@@ -136,5 +139,18 @@ pub fn walk(program: &Program, states: usize, accepted: &[&Lemma], safe: bool) -
             }
         }
     }
-    Ok(Walk { reachable: at, lemmas: accepted.len() })
+    Ok(at)
+}
+
+/// Holds each accepted lemma to all states of the ranges, and the verdict safe to all runs. `accepted` are the lemmas that
+/// the library accepts; `safe` is its verdict.
+pub fn walk(program: &Program, states: usize, accepted: &[&Lemma], safe: bool) -> Result<Walk, String> {
+    let all = all(program, states);
+    for (number, lemma) in accepted.iter().enumerate() {
+        if let Some(s) = refuted(&all, program.actions.len(), lemma) {
+            return Err(format!("accepted lemma {number} of the accepted ones is false at state {s}: {lemma:?}"));
+        }
+    }
+    let reachable = if safe { reached(program, &all)? } else { 0 };
+    Ok(Walk { reachable, lemmas: accepted.len() })
 }

@@ -145,130 +145,143 @@ pub fn sweep(compare: &mut Compare) -> Result<u64, Difference> {
     let mut sweep = Sweep { compare, inputs: 0 };
     let text = full();
     let all = full_lemmas(&text);
-    let short = all[..25 * 2].to_vec();
-
-    // Programs: one of full size, and a smaller one in which every count is below its limit.
-    for (program, lemmas) in [(text.words(), short), (demo().words(), demo_lemmas())] {
-        let mut input = Input { program: program.clone(), lemmas };
-        for at in 0..program.len() {
-            input.program.truncate(at);
-            sweep.program(&input, at)?;
-            input.program = program.clone();
-            for word in replacements(program[at]) {
-                input.program[at] = word;
-                sweep.program(&input, at)?;
-            }
-            input.program[at] = program[at];
-        }
-        for word in 0..16 {
-            input.program.push(make(word, 0));
-            sweep.program(&input, 0)?;
-            input.program.pop();
-        }
+    // Of full size, and smaller ones in which every count is below its limit.
+    for (program, lemmas) in [(text.words(), all[..25 * 2].to_vec()), (demo().words(), demo_lemmas())] {
+        sweep.programs(Input { program, lemmas })?;
     }
-
-    // Lemma lists: the same.
     for (program, lemmas) in [(text.words(), all.clone()), (demo().words(), demo_lemmas())] {
-        let mut input = Input { program, lemmas: lemmas.clone() };
-        for at in 0..lemmas.len() {
-            let word = lemmas[at];
-            input.lemmas.truncate(at);
-            sweep.lemmas(&input, at)?;
-            input.lemmas.extend_from_slice(&lemmas[at..]);
-            for word in replacements(word) {
-                input.lemmas[at] = word;
-                sweep.lemmas(&input, at)?;
-            }
-            input.lemmas[at] = word;
-        }
-        for word in 0..16 {
-            input.lemmas.push(make(word, 0xFFF_FFFF));
-            sweep.lemmas(&input, 0)?;
-            input.lemmas.pop();
-        }
+        sweep.lists(Input { program, lemmas })?;
     }
-
-    // Shows: list lengths, every lemma, every successor, every state list around the ranges.
-    let mut shows: Vec<Input> = ["fade", "house", "bakery", "rig8"]
-        .map(|name| show(name))
-        .map(|(program, lemmas)| Input { program, lemmas })
-        .to_vec();
-    shows.push(Input { program: text.words(), lemmas: all });
-    for input in &shows {
-        sweep.show(input)?;
+    for name in ["fade", "house", "bakery", "rig8"] {
+        let (program, lemmas) = show(name);
+        sweep.show(&Input { program, lemmas })?;
     }
+    sweep.show(&Input { program: text.words(), lemmas: all })?;
     Ok(sweep.inputs)
 }
 
 impl Sweep<'_> {
+    /// Every damage to the program.
+    fn programs(&mut self, mut input: Input) -> Result<(), Difference> {
+        let program = input.program.clone();
+        for at in 0..program.len() {
+            input.program.truncate(at);
+            self.program(&input, at)?;
+            input.program = program.clone();
+            for word in replacements(program[at]) {
+                input.program[at] = word;
+                self.program(&input, at)?;
+            }
+            input.program[at] = program[at];
+        }
+        for kind in 0..16 {
+            input.program.push(make(kind, 0));
+            self.program(&input, 0)?;
+            input.program.pop();
+        }
+        Ok(())
+    }
+
+    /// Every damage to the lemma list.
+    fn lists(&mut self, mut input: Input) -> Result<(), Difference> {
+        let lemmas = input.lemmas.clone();
+        for at in 0..lemmas.len() {
+            input.lemmas.truncate(at);
+            self.lemmas(&input, at)?;
+            input.lemmas.extend_from_slice(&lemmas[at..]);
+            for word in replacements(lemmas[at]) {
+                input.lemmas[at] = word;
+                self.lemmas(&input, at)?;
+            }
+            input.lemmas[at] = lemmas[at];
+        }
+        for kind in 0..16 {
+            input.lemmas.push(make(kind, 0xFFF_FFFF));
+            self.lemmas(&input, 0)?;
+            input.lemmas.pop();
+        }
+        Ok(())
+    }
+
+    /// A show: list lengths, every lemma, every action, every successor, every state list around the ranges.
     fn show(&mut self, input: &Input) -> Result<(), Difference> {
-        let compare = &mut *self.compare;
         for graph in [0, 1, 9_215, 9_216, 9_217, 12_000] {
             for path in [0, 1, 511, 512, 513, 1_000] {
-                compare.judge(input, graph, path, graph % 7)?;
+                self.compare.judge(input, graph, path, graph % 7)?;
                 self.inputs += 1;
             }
         }
-        let counts = compare.check(input)?;
+        let counts = self.compare.check(input)?;
         let lemmas = input.lemmas.iter().filter(|w| kind(**w) == LEMMA).count();
         for k in (0..lemmas + 2).chain([usize::MAX]) {
-            compare.ask(input, k)?;
+            self.compare.ask(input, k)?;
             self.inputs += 1;
         }
         for k in (0..counts.actions + 2).chain([16, 255, usize::MAX]) {
-            compare.action_part(input, k)?;
+            self.compare.action_part(input, k)?;
             self.inputs += 1;
         }
+        let judged = self.compare.judge(input, GRAPH_WORDS, PATH_WORDS, 0)?;
+        let graph = self.compare.graph().to_vec();
+        self.views(&graph, judged.nodes, counts.actions)?;
+        self.words_of_views(&graph, judged.nodes, counts.actions)?;
+        self.states(input, counts.variables, counts.actions)
+    }
 
-        let judged = compare.judge(input, GRAPH_WORDS, PATH_WORDS, 0)?;
-        let graph = compare.graph().to_vec();
-        let (nodes, actions) = (judged.nodes, counts.actions);
+    fn successor(&mut self, graph: &[u32], counts: (usize, usize), node: usize, action: usize) -> Result<(), Difference> {
+        self.inputs += 1;
+        self.compare.successor(graph, counts.0, counts.1, node, action)
+    }
+
+    /// Every node and action, every length of the list, counts at their ends and one past them.
+    fn views(&mut self, graph: &[u32], nodes: usize, actions: usize) -> Result<(), Difference> {
         for node in (0..nodes + 2).chain([511, 512, 513, usize::MAX]) {
             for action in (0..actions + 2).chain([15, 16, 17, usize::MAX]) {
-                compare.successor(&graph, nodes, actions, node, action)?;
-                self.inputs += 1;
+                self.successor(graph, (nodes, actions), node, action)?;
             }
         }
         for length in 0..=nodes * (2 + actions) {
-            compare.successor(&graph[..length], nodes, actions, 0, 0)?;
-            self.inputs += 1;
+            self.successor(&graph[..length], (nodes, actions), 0, 0)?;
         }
         for nodes in [0, 1, 511, 512, 513, usize::MAX] {
             for actions in [0, 1, 15, 16, 17, usize::MAX] {
-                compare.successor(&graph, nodes, actions, 0, 0)?;
-                self.inputs += 1;
+                self.successor(graph, (nodes, actions), 0, 0)?;
             }
         }
-        let mut list = graph.clone();
+        Ok(())
+    }
+
+    /// Every kind and every bit in every place of the first two records.
+    fn words_of_views(&mut self, graph: &[u32], nodes: usize, actions: usize) -> Result<(), Difference> {
+        let mut list = graph.to_vec();
         for at in 0..(2 + actions) * nodes.min(2) {
             for word in (0..16).map(|k| make(k, graph[at])).chain((0..32).map(|b| graph[at] ^ 1 << b)) {
                 list[at] = word;
-                compare.successor(&list, nodes, actions, at / (2 + actions), (at % (2 + actions)).saturating_sub(2))?;
-                self.inputs += 1;
+                let (node, place) = (at / (2 + actions), at % (2 + actions));
+                self.successor(&list, (nodes, actions), node, place.saturating_sub(2))?;
             }
             list[at] = graph[at];
         }
+        Ok(())
+    }
 
-        let ends: Vec<(i32, i32)> = input.program[..counts.variables]
-            .iter()
-            .map(|w| (signed(*w, 27, 14) as i32, signed(*w, 13, 0) as i32))
-            .collect();
-        for middle in [0, 1, 2] {
-            let state: Vec<i32> = ends.iter().map(|(l, h)| [*l, *h, (l + h) / 2][middle]).collect();
-            for k in 0..counts.actions + 1 {
-                for length in 0..12 {
-                    let mut list = state.clone();
-                    list.resize(length, 0);
-                    compare.step(input, k, &list)?;
-                    self.inputs += 1;
+    /// From the low ends, the high ends and the middle: every length of the state list, every variable at and past its ends.
+    fn states(&mut self, input: &Input, variables: usize, actions: usize) -> Result<(), Difference> {
+        let ends: Vec<(i32, i32)> =
+            input.program[..variables].iter().map(|w| (signed(*w, 27, 14) as i32, signed(*w, 13, 0) as i32)).collect();
+        for from in [0, 1, 2] {
+            let state: Vec<i32> = ends.iter().map(|(l, h)| [*l, *h, (l + h) / 2][from]).collect();
+            let mut lists: Vec<Vec<i32>> = (0..12).map(|n| state.iter().copied().chain([0; 12]).take(n).collect()).collect();
+            for (v, (low, high)) in ends.iter().enumerate() {
+                for value in [low - 1, *low, low + 1, high - 1, *high, high + 1, i32::MIN, i32::MAX] {
+                    lists.push(state.clone());
+                    lists.last_mut().unwrap()[v] = value;
                 }
-                for (v, (low, high)) in ends.iter().enumerate() {
-                    for value in [low - 1, *low, low + 1, high - 1, *high, high + 1, i32::MIN, i32::MAX] {
-                        let mut list = state.clone();
-                        list[v] = value;
-                        compare.step(input, k, &list)?;
-                        self.inputs += 1;
-                    }
+            }
+            for k in 0..actions + 1 {
+                for list in &lists {
+                    self.compare.step(input, k, list)?;
+                    self.inputs += 1;
                 }
             }
         }
