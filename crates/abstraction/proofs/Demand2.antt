@@ -15,22 +15,15 @@ use Rattle.formula.specs.Formula.{Literal, Monomial, False, And}
 use Rattle.search.specs.Search.{Answer, To, None, Origin, Root, From, Graph, Result, Done, Over, seek, count, nodeWord, origin, edge}
 use Rattle.search.proofs.Reach.{Distinct, AllOf, Many}
 use Rattle.search.proofs.Count.{lt-or-le, row-below, seek-found}
+use Rattle.search.proofs.Numbered.{Earlier as EarlierBy}
 use Rattle.search.proofs.Sound.{Comes}
 use Rattle.search.proofs.Sound.{Leads as LeadsBy}
 use Rattle.search.proofs.Theorem.{to-inj, not-none, Whole, whole, over}
 use Rattle.records.specs.Records.{mostNodes}
 use Rattle.abstraction.specs.Abstraction.{successor, start, answer, graph}
-use Rattle.abstraction.specs.Faithful.{ReachableIn, literalsAt, Leads, Before, Found, Faithful, TooMany, Demand2}
+use Rattle.abstraction.specs.Faithful.{ReachableIn, literalsAt, Leads, Earlier, FoundFirst, FoundBefore, Faithful, TooMany, Demand2}
+use Rattle.abstraction.proofs.Order.{earlier-below, below-earlier}
 use Rattle.abstraction.proofs.Reached.{stateOf, wordOf, ReachIn, successor-back, start-back, and-literals, has-word, has-literals}
-
--- if k and l do not come before i and j, then i and j come before k and l, or are they
-not-after : (a i j k l : ℕ) → l < a → (k * a + l < i * a + j → ⊥) → Before i j k l
-not-after a i j k l hl h =
-    ⊎-elim (λ lt. inl lt)
-    (λ le. ⊎-elim (λ lt. absurd (h (omega (arith, row-below a k l i hl lt))))
-    (λ ge. let e : i ≡ k = omega arith in
-    let f : i * a ≡ k * a = rw e in
-    inr (e, ⊎-elim (λ lt. absurd (h (omega arith))) (λ le′. le′) (lt-or-le l j))) (lt-or-le k i)) (lt-or-le i k)
 
 module _ (p : Program) (ok : WellFormed p) (ls : List Lemma) (good : Each (LemmaOk p) ls) where
   abbrev actions : ℕ
@@ -71,17 +64,32 @@ module _ (p : Program) (ok : WellFormed p) (ls : List Lemma) (good : Each (Lemma
     edges k j hk hj = leads-as k j (successor p ls j (literalsAt g k)) (edge actions g k j) refl (v .leads k j hk hj)
 
     -- ---- origins
-    found : (n : ℕ) (o : Origin) → n < count g → Comes begin next actions (g .words) n o → Found p ls g n o
+    found : (n : ℕ) (o : Origin) → n < count g → Comes begin next actions (g .words) n o → FoundFirst p ls g n o
     found n Root h c = (c .0, and-literals (start p ls) (nodeWord g n) (start-back p ok ls good) (c .1) .0)
     found n (From i j) h c = (
       c .0,
       c .1,
       and-literals (successor p ls j (literalsAt g i)) (nodeWord g n) (successor-back p ok ls good j (payload (nodeWord g i))) (c .2) .0,
-      λ k l hk hl s. not-after actions i j k l hl (λ lt. c .3 k l hl lt (ap answer s ∙ ap To (sym (words n h)))),
+      λ k l hk hl s lt. c .3 k l hl (earlier-below actions k l i j hl lt) (ap answer s ∙ ap To (sym (words n h))),
     )
 
+    -- ---- the order of finding
+    before : (n : ℕ) (o q : Origin) → Comes begin next actions (g .words) n q → EarlierBy actions o q → FoundBefore o q
+    before n Root (From k l) c e = tt
+    before n (From i j) (From k l) c e = below-earlier actions i j k l (c .1) e
+
     faithful : Faithful p ls g
-    faithful = record { words = words; only = only; all = all; once = once; edges = edges; origins = λ k h. found k (origin g k) h (v .comes k h) }
+    faithful = record {
+      words = words;
+      only = only;
+      all = all;
+      once = once;
+      edges = edges;
+      origins = λ k h. found k (origin g k) h (v .comes k h);
+      numbered = λ i k l h. before k (origin g i) (origin g k) (v .comes k h) (v .later i k l h);
+      origin-count = v .origins-count;
+      edge-count = v .edges-count;
+    }
 
   -- ---- 512 nodes are enough, or there are too many
   module _ (t : TooMany p ls) where

@@ -1,19 +1,15 @@
--- What the exploration is compared with, and nothing of it: reached words, walks, lists of distinct words.
+-- What the exploration is compared with, and nothing of it: reached words, lists of distinct words.
 use Prim.Native.Nat.{ℕ, _<_}
 use mathlib.Core.Path.{_≡_}
-use mathlib.Core.List.{List, [], _∷_}
+use mathlib.Core.List.{List}
 use lib.ListN.{length, getD}
 use Rattle.search.specs.Search.{Answer, To}
 
--- the start is reached, and so is each successor of a reached word; a walk has its actions, the last one first
+-- the start is reached, and so is each successor of a reached word
 module _ (start : Answer) (next : ℕ → ℕ → Answer) (a : ℕ) where
   pub data Reach : ℕ → Type 0 where
     first : {w : ℕ} → start ≡ To w → Reach w
     onward : {w v j : ℕ} → Reach w → j < a → next w j ≡ To v → Reach v
-
-  pub data Walk : List ℕ → ℕ → Type 0 where
-    stand : {w : ℕ} → start ≡ To w → Walk [] w
-    step : {js : List ℕ} {w v j : ℕ} → Walk js w → j < a → next w j ≡ To v → Walk (j ∷ js) v
 
 abbrev pub Distinct : List ℕ → Type 0
 Distinct ws = (i j : ℕ) → i < length ws → j < length ws → getD ws i 0 ≡ getD ws j 0 → i ≡ j

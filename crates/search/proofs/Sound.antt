@@ -14,6 +14,7 @@ use Rattle.search.specs.Search.{Answer, To, None, Origin, Root, From, Gr
 use Rattle.search.proofs.Reach.{Reach, first, onward, Distinct, AllOf, Many}
 use Rattle.search.proofs.Grown.{len-more, more, Grown, stored-grown}
 use Rattle.search.proofs.Count.{lt-or-le, same-place, row-below, seek-found, seek-bound, seek-le}
+use Rattle.search.proofs.Numbered.{Numbered, empty-numbered, root-numbered, linked-numbered, new-numbered}
 
 abbrev pub Begins : List ℕ → Answer → Type 0
 Begins ws (To w) = (0 < length ws) × (getD ws 0 0 ≡ w)
@@ -146,18 +147,18 @@ module _ (start : Answer) (next : ℕ → ℕ → Answer) (a limit : ℕ) where
 
   -- node k has had j of its actions
   abbrev pub Mid : ℕ → ℕ → Graph → Type 0
-  Mid k j g = (k < count g) × (length (g .edges) ≡ k * a + j) × Sound g
+  Mid k j g = (k < count g) × (length (g .edges) ≡ k * a + j) × Sound g × Numbered a g
 
   -- the nodes before k have had theirs
   abbrev pub Out : ℕ → Graph → Type 0
-  Out k g = (length (g .edges) ≡ min k (count g) * a) × Sound g
+  Out k g = (length (g .edges) ≡ min k (count g) * a) × Sound g × Numbered a g
 
   module _ (k j : ℕ) (g : Graph) (hj : j < a) (mid : Mid k j g) where
     wider : (e : Answer) → length (g .edges ++ (e ∷ [])) ≡ k * a + suc j
     wider e = omega (arith, len-more (g .edges) e, mid .1)
 
     none-mid : next (nodeWord g k) j ≡ None → Mid k (suc j) (linked g None)
-    none-mid e = (mid .0, wider None, linked-sound k g (mid .2) j (mid .0) hj (mid .1) None e)
+    none-mid e = (mid .0, wider None, linked-sound k g (mid .2) j (mid .0) hj (mid .1) None e, linked-numbered a g None (mid .3))
 
     module _ (w : ℕ) (gives : next (nodeWord g k) j ≡ To w) where
       at : ℕ
@@ -167,7 +168,7 @@ module _ (start : Answer) (next : ℕ → ℕ → Answer) (a limit : ℕ) where
       unfolding at
       known-mid h =
           let found : nodeWord g (seek w (g .words)) ≡ w = seek-found w (g .words) h in
-          (mid .0, wider (To (seek w (g .words))), linked-sound k g (mid .2) j (mid .0) hj (mid .1) (To (seek w (g .words))) (h, rw found gives))
+          (mid .0, wider (To (seek w (g .words))), linked-sound k g (mid .2) j (mid .0) hj (mid .1) (To (seek w (g .words))) (h, rw found gives), linked-numbered a g (To (seek w (g .words))) (mid .3))
 
       fresh : count g ≤ at → (i : ℕ) → i < count g → nodeWord g i ≡ w → ⊥
       unfolding at
@@ -184,7 +185,7 @@ module _ (start : Answer) (next : ℕ → ℕ → Answer) (a limit : ℕ) where
           let there : count g < count (stored g o w) = omega (arith, len-more (g .words) w) in
           let found : nodeWord (stored g o w) (count g) ≡ w = getD-append-seam (g .words) w [] 0 in
           rw is
-          (here, wider (To (count g)), linked-sound k (stored g o w) s j here hj (mid .1) (To (count g)) (there, rw (found, gr .words-kept k (mid .0)) gives))
+          (here, wider (To (count g)), linked-sound k (stored g o w) s j here hj (mid .1) (To (count g)) (there, rw (found, gr .words-kept k (mid .0)) gives), new-numbered a g k j w (To (count g)) (mid .2 .same) (mid .1) (mid .3))
 
       placed-holds : (t u : Bool) → ltb at (count g) ≡ t → ltb (count g) limit ≡ u → Holds (Mid k (suc j)) (placed t u g (From k j) w at)
       placed-holds true u et eu = known-mid (ltb-true _ _ et)
@@ -207,10 +208,10 @@ module _ (start : Answer) (next : ℕ → ℕ → Answer) (a limit : ℕ) where
   turns-holds g k m (suc j) h = acted-holds k j (turns next limit g k j) h (turns-holds g k m j (omega arith))
 
   out-mid : (k : ℕ) (g : Graph) → k < count g → Out k g → Mid k 0 g
-  out-mid k g h o = (h, o .0 ∙ rw (min-eq-left {n = k} {m = count g} (omega arith), add-zero), o .1)
+  out-mid k g h o = (h, o .0 ∙ rw (min-eq-left {n = k} {m = count g} (omega arith), add-zero), o .1, o .2)
 
   mid-out : (k : ℕ) (g : Graph) → Mid k a g → Out (suc k) g
-  mid-out k g m = (m .1 ∙ sym (suc-mul k a) ∙ rw (min-eq-left {n = suc k} {m = count g} (m .0)), m .2)
+  mid-out k g m = (m .1 ∙ sym (suc-mul k a) ∙ rw (min-eq-left {n = suc k} {m = count g} (m .0)), m .2, m .3)
 
   mid-out-holds : (k : ℕ) (r : Result) → Holds (Mid k a) r → Holds (Out (suc k)) r
   mid-out-holds k (Done g) h = mid-out k g h
@@ -218,7 +219,7 @@ module _ (start : Answer) (next : ℕ → ℕ → Answer) (a limit : ℕ) where
 
   still : (k : ℕ) (g : Graph) → count g ≤ k → Out k g → Out (suc k) g
   still k g h o =
-      (o .0 ∙ rw (min-eq-right {n = count g} {m = k} h, min-eq-right {n = count g} {m = suc k} (omega arith)), o .1)
+      (o .0 ∙ rw (min-eq-right {n = count g} {m = k} h, min-eq-right {n = count g} {m = suc k} (omega arith)), o .1, o .2)
 
   nodeIf-holds : (k : ℕ) (g : Graph) (t : Bool) → ltb k (count g) ≡ t → Out k g → Holds (Out (suc k)) (nodeIf next a limit t g k)
   nodeIf-holds k g true e o =
@@ -253,7 +254,7 @@ module _ (start : Answer) (next : ℕ → ℕ → Answer) (a limit : ℕ) where
     }
 
     rooted-holds : (t : Bool) → ltb 0 limit ≡ t → Holds (Out 0) (rooted t w)
-    rooted-holds true e = (sym (zero-mul a) ∙ rw (min-eq-left {n = 0} {m = 1} (omega arith)), root-sound (ltb-true _ _ e))
+    rooted-holds true e = (sym (zero-mul a) ∙ rw (min-eq-left {n = 0} {m = 1} (omega arith)), root-sound (ltb-true _ _ e), root-numbered a w)
     rooted-holds false e = let z = ltb-false 0 limit e in record { list = w ∷ []; size = omega arith; distinct = one-distinct; all = one-reached }
 
   empty-sound : start ≡ None → Sound empty
@@ -269,7 +270,7 @@ module _ (start : Answer) (next : ℕ → ℕ → Answer) (a limit : ℕ) where
 
   begun-holds : (s : Answer) → start ≡ s → Holds (Out 0) (begun limit s)
   begun-holds (To w) is = rooted-holds w is (ltb 0 limit) refl
-  begun-holds None is = (sym (zero-mul a) ∙ rw (min-eq-left {n = 0} {m = 0} (omega arith)), empty-sound is)
+  begun-holds None is = (sym (zero-mul a) ∙ rw (min-eq-left {n = 0} {m = 0} (omega arith)), empty-sound is, empty-numbered a)
 
   pub run-holds : (k : ℕ) → Holds (Out k) (run next a limit start k)
   unfolding run

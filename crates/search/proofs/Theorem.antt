@@ -3,6 +3,7 @@
 --     stored-once                        no word is stored twice
 --     edge-is                            edge (i, j) is the number at which next (word i) j stands, none exactly if there is none
 --     at-most, over                      it is over exactly if there are more than limit distinct reached words
+--     later                              nodes are numbered in the order of finding
 --     comes                              node 0 is the start's; any other has a parent with a smaller number, whose action is the first that leads to it
 use Prim.Native.Nat.{ℕ, suc, _*_, _<_, _≤_}
 use native.Mathlib.Omega.{arith}
@@ -14,6 +15,7 @@ use lib.ListN.{length}
 use Rattle.search.specs.Search.{Answer, To, None, Graph, Done, Over, seek, explored, count, nodeWord, origin, edge, numbered}
 use Rattle.search.proofs.Reach.{Reach, first, onward, Distinct, AllOf, Many}
 use Rattle.search.proofs.Count.{row-below, seek-found, seek-le, no-more}
+use Rattle.search.proofs.Numbered.{Earlier}
 use Rattle.search.proofs.Sound.{Begins, Comes, Leads, Sound, Out, explored-holds}
 
 pub to-inj : {v w : ℕ} → To v ≡ To w → v ≡ w
@@ -37,6 +39,7 @@ pub record Whole (start : Answer) (next : ℕ → ℕ → Answer) (a limit : ℕ
   pub leads : (i j : ℕ) → i < count g → j < a → Leads next (g .words) i j (edge a g i j)
   pub at-most : (xs : List ℕ) → Distinct xs → AllOf (Reach start next a) xs → length xs ≤ limit
   pub comes : (i : ℕ) → i < count g → Comes start next a (g .words) i (origin g i)
+  pub later : (i k : ℕ) → i < k → k < count g → Earlier a (origin g i) (origin g k)
 
 module _ (g : Graph) where
   pub start-stored : (s : Answer) → Begins (g .words) s → (w : ℕ) → s ≡ To w → (0 < count g) × (nodeWord g 0 ≡ w)
@@ -129,4 +132,5 @@ module _ (start : Answer) (next : ℕ → ℕ → Answer) (a limit : ℕ) where
       leads = leads;
       at-most = at-most;
       comes = comes;
+      later = out .2 .later;
     }
