@@ -4,4 +4,5 @@ pub mod WordLaws
 pub mod RowLaws
 pub mod TermLaws
 pub mod ActionLaws
+pub mod Refusing
 pub mod ProgramLaws

@@ -1,7 +1,7 @@
 -- A whole graph judged: what the first finding needs, and the verdict and path that it gives.
 use mathlib.Core.Path.{_≡_, refl, sym, ap, subst}
 use mathlib.Core.Bool.{Bool}
-use mathlib.Core.List.{List, [], _∷_}
+use mathlib.Core.List.{List, [], _∷_, map}
 use Prim.Native.Nat.{ℕ, _≤_}
 use native.Mathlib.Omega.{arith}
 use lib.ListN.{length}
@@ -10,15 +10,19 @@ use Rattle.programs.specs.declared.Image.{Image}
 use Rattle.lemmas.specs.Lemmas.{Lemma}
 use Rattle.lemmas.specs.Sources.{theProgram, Held}
 use Rattle.lemmas.proofs.SourceLaws.{counts}
-use Rattle.gather.specs.Gathering.{Entry}
+use Rattle.gather.specs.Gathering.{Entry, entryOf, gathered, successorOf}
+use Rattle.gather.specs.declared.Successor.{Successor}
+use Rattle.gather.specs.declared.Successor.the-variants.{Set}
+use Rattle.gather.specs.declared.Successor.the-variants.{Nothing as NoSet}
 use Rattle.search.specs.Search.{Graph, Done, count, links}
 use Rattle.search.proofs.Theorem.{Whole, whole}
 use Rattle.records.specs.Records.{mostNodes, graphList}
 use Rattle.abstraction.specs.Abstraction.{start, answer}
+use Rattle.abstraction.specs.Claims.{claims}
 use Rattle.abstraction.proofs.ClaimLaws.{applies-is}
-use Rattle.verdict.specs.Verdicts.{Finding, Forbid, RunOff, stepsTo}
-use Rattle.verdict.specs.Working.{Traced, askedEnds, foundOf}
-use Rattle.verdict.specs.Working.{Judged as Judging}
+use Rattle.abstraction.proofs.Graphs.{monomialOf, successor-is}
+use Rattle.verdict.specs.Verdicts.{Finding, Forbid, RunOff, hasNext, stepsTo}
+use Rattle.verdict.specs.Working.{Traced, askedEnds, foundOf, given, Judging}
 use Rattle.verdict.proofs.Traces.{traced}
 use Rattle.verdict.proofs.Judging.{judged}
 use Rattle.verdict.specs.declared.Found.the-variants.{Nothing}
@@ -52,6 +56,10 @@ module _ (g : Graph) {nodes edges : ℕ} (n : nodes ≡ count g) (e : edges ≡ 
       let d : high ≡ top = cc h in
       (rw (n, e, a, b, c, d) refl, rw a refl)
 
+given-next : (s : Successor) → given s ≡ hasNext (monomialOf s)
+given-next (Set s) = refl
+given-next NoSet = refl
+
 -- ---- what is known of a list that holds a whole graph
 module _ (ws : List ℕ) {image : Image} (held : Held ws image) {es : List Entry} {nodes edges : ℕ} {l : List ℕ} (ls : List Lemma) (g : Graph) (r : Ready (theProgram ws) ls g es nodes edges l) where
   abbrev p : Program
@@ -78,7 +86,8 @@ module _ (ws : List ℕ) {image : Image} (held : Held ws image) {es : List Entry
   pub judging : {asked : List ℕ} → asked ≡ askedEnds p → Judging p ls g es (image .literals) (image .forbidden) asked (image .actions) l
   judging a =
       subst (λ (asked : List ℕ). Judging p ls g es (image .literals) (image .forbidden) asked (image .actions) l) (sym a)
-      (judged held (λ source set goal index h. rw (r .tables) (applies-is p (r .good) ls (r .each) source set goal index h)) whole-here (r .before) listed-as)
+      (judged held (λ source set goal index h. rw (r .tables) (applies-is p (r .good) ls (r .each) source set goal index h))
+      (λ source set. rw (r .tables, successor-is p (r .good) ls (r .each) source set) (given-next (successorOf (gathered source set (map entryOf (claims p ls)))))) (r .before) listed-as)
 
   pub image-few : (image .forbidden ≤ 8) × (image .actions ≤ 16)
   image-few = (omega (arith, ap (λ (y : Image). y .forbidden) (held .same), r .good .forbidden .few), omega (arith, actions-are, r .good .actions .few))

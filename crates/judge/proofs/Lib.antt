@@ -1,5 +1,5 @@
-pub mod Promised
 pub mod Walks
+pub mod Promised
 pub mod Judging
 pub mod Listing
 pub mod Whole

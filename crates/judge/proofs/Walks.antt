@@ -1,4 +1,4 @@
--- The path to the first finding's node is a walk in the graph from node 0 to it.
+-- Every finding is at a node of the graph, and the path to a node is a walk from node 0 to it.
 use mathlib.Core.Path.{_≡_, refl}
 use mathlib.Core.Bool.{Bool, true, false, cond}
 use mathlib.Core.List.{List, [], _∷_, _++_}
@@ -6,22 +6,19 @@ use Prim.Native.Nat.{ℕ, zero, suc, _+_, _<_}
 use native.Mathlib.Omega.{arith}
 use lib.ListN.{length}
 use Rattle.words.specs.declared.Literals.{Literals}
-use Rattle.grammar.specs.Reading.{Read, got, refused}
 use Rattle.grammar.specs.Programs.{Assignment, Action, Program}
 use Rattle.grammar.specs.WellFormed.{Each}
-use Rattle.programs.specs.Calls.{read}
 use Rattle.lemmas.specs.Lemmas.{Lemma}
-use Rattle.lemmas.specs.LemmaGrammar.{readLemmas}
 use Rattle.words.specs.Words.{payload}
 use Rattle.formula.specs.Formula.{Literal}
-use Rattle.search.specs.Search.{Answer, Graph, Result, Done, Over, count, edge}
+use Rattle.search.specs.Search.{Answer, Graph, Done, count}
+use Rattle.search.specs.Paths.{Walk}
 use Rattle.search.proofs.Theorem.{whole}
 use Rattle.search.proofs.Paths.{path-in-graph}
 use Rattle.records.specs.Records.{mostNodes}
 use Rattle.abstraction.specs.Abstraction.{literalsIn, applies, successor, start, answer, graph}
 use Rattle.abstraction.specs.Faithful.{literalsAt}
-use Rattle.verdict.specs.Verdicts.{Finding, Forbid, RunOff, contradicted, unless, forbids, ends, hasNext, runsOff, findingsAt, findingsFrom, findings, nodeOf}
-use Rattle.judge.specs.Calls.{OfList, WalksTo, WalksIn, WalksOf}
+use Rattle.verdict.specs.Verdicts.{Finding, Forbid, RunOff, contradicted, unless, forbids, ends, hasNext, runsOff, findingsAt, findingsFrom, findings, nodeOf, stepsTo}
 
 -- ---- every finding is at a node of the graph
 abbrev At : ℕ → List Finding → Type 0
@@ -63,16 +60,16 @@ abbrev pub next : Program → List Lemma → ℕ → ℕ → Answer
 next p ls w j = answer (successor p ls j (literalsIn 14 (payload w)))
 
 module _ (p : Program) (ls : List Lemma) (g : Graph) where
-  runs-off-at : (k j : ℕ) (xs : List Action) → At k (runsOff p ls g k j xs)
+  runs-off-at : (k j : ℕ) (xs : List Action) → At k (runsOff p ls (literalsAt g k) k j xs)
   unfolding runsOff
   runs-off-at k j [] = tt
   runs-off-at k j (a ∷ rest) =
       let here = ends (applies p ls j (literalsAt g k)) k j (a .sets) in
-      let b = hasNext (edge (length (p .actions)) g k j) in
-      each-append (λ f. nodeOf f ≡ k) (cond b here []) (runsOff p ls g k (suc j) rest) (if-at k b here (ends-at (applies p ls j (literalsAt g k)) k j (a .sets))) (runs-off-at k (suc j) rest)
+      let b = hasNext (successor p ls j (literalsAt g k)) in
+      each-append (λ f. nodeOf f ≡ k) (cond b here []) (runsOff p ls (literalsAt g k) k (suc j) rest) (if-at k b here (ends-at (applies p ls j (literalsAt g k)) k j (a .sets))) (runs-off-at k (suc j) rest)
 
   findings-at : (k : ℕ) → At k (findingsAt p ls g k)
-  findings-at k = each-append (λ f. nodeOf f ≡ k) (forbids k (literalsAt g k) 0 (p .forbidden)) (runsOff p ls g k 0 (p .actions)) (forbids-at k (literalsAt g k) 0 (p .forbidden)) (runs-off-at k 0 (p .actions))
+  findings-at k = each-append (λ f. nodeOf f ≡ k) (forbids k (literalsAt g k) 0 (p .forbidden)) (runsOff p ls (literalsAt g k) k 0 (p .actions)) (forbids-at k (literalsAt g k) 0 (p .forbidden)) (runs-off-at k 0 (p .actions))
 
   within-from : (k n : ℕ) → Each (λ f. nodeOf f < k + n) (findingsFrom p ls g k n)
   unfolding findingsFrom
@@ -85,24 +82,8 @@ module _ (p : Program) (ls : List Lemma) (g : Graph) where
   pub findings-within : Each (λ f. nodeOf f < count g) (findings p ls g)
   findings-within = each-weaken (λ f. nodeOf f < 0 + count g) (λ f. nodeOf f < count g) (λ f e. omega (arith, e)) (findings p ls g) (within-from 0 (count g))
 
-  -- ---- the path
-  graph-walks : graph p ls ≡ Done g → (fs : List Finding) → Each (λ f. nodeOf f < count g) fs → WalksTo p g fs
-  graph-walks e [] h = tt
-  graph-walks e (f ∷ fs) h =
+  -- ---- the path to a node
+  pub steps-walk : graph p ls ≡ Done g → (k : ℕ) → k < count g → Walk (length (p .actions)) g 0 (stepsTo g k) k
+  steps-walk e k h =
       let w = whole (answer (start p ls)) (next p ls) (length (p .actions)) mostNodes g e in
-      path-in-graph (answer (start p ls)) (next p ls) (length (p .actions)) mostNodes g w mostNodes (nodeOf f) (omega (arith, w .within, h .0)) (h .0)
-
-result-walks : (p : Program) (ls : List Lemma) (r : Result) → graph p ls ≡ r → WalksIn p ls r
-result-walks p ls (Done g) e = graph-walks p ls g e (findings p ls g) (findings-within p ls g)
-result-walks p ls Over e = tt
-
-lemmas-walk : (p : Program) (m : Read (List Lemma)) → OfList (λ ls. WalksIn p ls (graph p ls)) m
-lemmas-walk p (got ls us i) = result-walks p ls (graph p ls) refl
-lemmas-walk p (refused r) = tt
-
-program-walks : (m : Read Program) (lemmas : List ℕ) → WalksOf m lemmas
-program-walks (got p us i) lemmas = lemmas-walk p (readLemmas p lemmas)
-program-walks (refused r) lemmas = tt
-
-pub judge-walks : (ws lemmas : List ℕ) → WalksOf (read ws) lemmas
-judge-walks ws lemmas = program-walks (read ws) lemmas
+      path-in-graph (answer (start p ls)) (next p ls) (length (p .actions)) mostNodes g w mostNodes k (omega (arith, w .within, h)) h

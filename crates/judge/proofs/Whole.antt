@@ -21,23 +21,23 @@ use Rattle.ask.specs.Calls.{noLemma}
 use Rattle.ask.proofs.Asking.{Program-read, read-refused, lemmas-refused, Lemmas-read, lemmas-read, good, is-lemma, lemma-is}
 use Rattle.tables.specs.Tabled.{lemmasOr, theLemmas, Begun}
 use Rattle.verdict.specs.Verdicts.{pathWords}
-use Rattle.judge.specs.Calls.{judge, judgeProgram, judgeLemmas, Demand2Of, SafeOf, WalksOf}
+use Rattle.judge.specs.Calls.{judge, judgeProgram, judgeLemmas}
+use Rattle.judge.specs.Worth.{Demand2Of, SafeOf}
 use Rattle.judge.specs.Ready.{judgeList}
 use Rattle.judge.specs.declared.Judged.{Judged}
 use Rattle.judge.specs.declared.Judged.the-variants.{Refused}
 use Rattle.judge.specs.declared.Judged.the-variants.{Safe as IsSafe}
 use Rattle.judge.proofs.Promised.{judge-demand2, judge-safe}
-use Rattle.judge.proofs.Walks.{judge-walks}
 use Rattle.judge.proofs.Listing.{Gives}
 
 module _ (ws lemmas gl pl : List ℕ) where
   abbrev pub Promises : Judged → List ℕ → List ℕ → Type 0
   Promises r gl′ pl′ =
       (r ≡ judge ws lemmas gl pl .answer) × ((gl′ ≡ judge ws lemmas gl pl .graph) × ((pl′ ≡ judge ws lemmas gl pl .path)
-      × (Demand2Of (read ws) lemmas × (((n e : ℕ) → r ≡ IsSafe n e → SafeOf (read ws)) × WalksOf (read ws) lemmas))))
+      × (Demand2Of ws lemmas r gl gl′ pl pl′ × ((n e : ℕ) → r ≡ IsSafe n e → SafeOf (read ws)))))
 
   promised : {r : Judged} {gl′ pl′ : List ℕ} → Gives (judge ws lemmas gl pl) r gl′ pl′ → Promises r gl′ pl′
-  promised h = (h .0, (h .1 .0, (h .1 .1, (judge-demand2 ws lemmas, (λ n e k. judge-safe ws lemmas gl pl (sym (h .0) ∙ k), judge-walks ws lemmas)))))
+  promised h = (h .0, (h .1 .0, (h .1 .1, (rw (h .0, h .1 .0, h .1 .1) (judge-demand2 ws lemmas gl pl), λ n e k. judge-safe ws lemmas gl pl (sym (h .0) ∙ k)))))
 
   pub short-graph : length gl < graphWords → Promises (Refused (Short 0)) gl pl
   short-graph h = let e = lt-ltb (length gl) graphWords h in promised (rw e refl, (rw e refl, rw e refl))

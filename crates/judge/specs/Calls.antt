@@ -1,15 +1,10 @@
--- What Judge answers and leaves in the two lent lists, for any four lists, and what its answers are worth.
+-- What Judge answers and leaves in the two lent lists, for any four lists. What that is worth is in Worth.
 --
 -- Judgement — the answer, and the graph and path lists at exit
 -- keep      — an answer that leaves both lists
 -- verdict   — the first finding with the counts of nodes and edges; none is safe
 -- pathTo    — the steps to the first finding's node; none for safe
 -- judgeGraph, judgeLemmas, judgeProgram, judge — Judge; refusals in the order 1 graph, 1 path, 2 to 4, 5 and 6, 11, 7
--- OfList, OfRead — a claim about the program and the lemmas that the lists' words are
--- Demand2Of — demand 2, of their graph
--- SafeOf    — demand 3, of the program that the words are
--- WalksTo, WalksIn, WalksOf — the path to the first finding is a walk in the graph from node 0 to its node
-use mathlib.Core.Path.{_≡_}
 use mathlib.Core.Bool.{cond}
 use mathlib.Core.List.{List, [], _∷_}
 use Prim.Native.Nat.{ℕ}
@@ -19,14 +14,11 @@ use Rattle.words.specs.declared.Refusal.the-variants.{Short, Nodes, Sum}
 use Rattle.grammar.specs.Reading.{Read, got, refused}
 use Rattle.grammar.specs.Programs.{Program}
 use Rattle.programs.specs.Calls.{read}
-use Rattle.runs.specs.Runs.{Safe}
 use Rattle.lemmas.specs.Lemmas.{Lemma}
 use Rattle.lemmas.specs.LemmaGrammar.{readLemmas}
-use Rattle.search.specs.Search.{To, Graph, Result, Done, Over, count, links, edge}
-use Rattle.search.specs.Paths.{along}
+use Rattle.search.specs.Search.{Graph, Result, Done, Over, count, links}
 use Rattle.records.specs.Records.{graphWords, graphList}
 use Rattle.abstraction.specs.Abstraction.{graph}
-use Rattle.abstraction.specs.Faithful.{Demand2}
 use Rattle.tables.specs.Tabled.{firstOff}
 use Rattle.verdict.specs.Verdicts.{Finding, Forbid, RunOff, findings, nodeOf, stepsTo, pathWords, pathList}
 use Rattle.judge.specs.declared.Judged.{Judged}
@@ -69,31 +61,3 @@ abbrev pub judge : List ℕ → List ℕ → List ℕ → List ℕ → Judgement
 judge ws lemmas gl pl =
     cond (ltb (length gl) graphWords) (keep (Refused (Short 0)) gl pl)
     (cond (ltb (length pl) pathWords) (keep (Refused (Short 1)) gl pl) (judgeProgram (read ws) lemmas gl pl))
-
--- ---- what holds of every answer
--- of the program and the lemmas that were read
-abbrev pub OfList : (List Lemma → Type 0) → Read (List Lemma) → Type 0
-OfList P (got ls ws i) = P ls
-OfList P (refused r) = Unit {0}
-
-abbrev pub OfRead : (Program → List Lemma → Type 0) → Read Program → List ℕ → Type 0
-OfRead P (got p ws i) lemmas = OfList (P p) (readLemmas p lemmas)
-OfRead P (refused r) lemmas = Unit {0}
-
-abbrev pub Demand2Of : Read Program → List ℕ → Type 0
-Demand2Of m lemmas = OfRead (λ p ls. Demand2 p ls (graph p ls)) m lemmas
-
-abbrev pub SafeOf : Read Program → Type 0
-SafeOf (got p ws i) = Safe p
-SafeOf (refused r) = ⊥
-
-abbrev pub WalksTo : Program → Graph → List Finding → Type 0
-WalksTo p g [] = Unit {0}
-WalksTo p g (f ∷ fs) = along (edge (length (p .actions)) g) (To 0) (stepsTo g (nodeOf f)) ≡ To (nodeOf f)
-
-abbrev pub WalksIn : Program → List Lemma → Result → Type 0
-WalksIn p ls (Done g) = WalksTo p g (findings p ls g)
-WalksIn p ls Over = Unit {0}
-
-abbrev pub WalksOf : Read Program → List ℕ → Type 0
-WalksOf m lemmas = OfRead (λ p ls. WalksIn p ls (graph p ls)) m lemmas

@@ -12,7 +12,8 @@ ghost use Rattle.records.specs.Records.{graphWords};
 ghost use Rattle.tables.specs.Tabled.{theLemmas, Begun};
 ghost use Rattle.verdict.specs.Verdicts.{findings, pathWords, pathList};
 ghost use Rattle.verdict.specs.Working.{foundOf, Within};
-ghost use Rattle.judge.specs.Calls.{verdict, pathTo, judge, Demand2Of, SafeOf, WalksOf};
+ghost use Rattle.judge.specs.Calls.{verdict, pathTo, judge};
+ghost use Rattle.judge.specs.Worth.{Demand2Of, SafeOf};
 ghost use Rattle.judge.specs.Ready.{Ready, judgeList};
 ghost use Rattle.judge.specs.declared.Judged.the-variants.{Safe};
 use programs::Image;
@@ -140,9 +141,8 @@ pub fn judge(words: &[u32], lemmas: &[u32], graph: &mut [u32], path: &mut [u32])
     ensures answer { λ r. ⌜ r ≡ judge (now (words .entry)) (now (lemmas .entry)) (now (graph .entry)) (now (path .entry)) .answer ⌝ }
     ensures graph { λ _. ⌜ now (graph .exit) ≡ judge (now (words .entry)) (now (lemmas .entry)) (now (graph .entry)) (now (path .entry)) .graph ⌝ }
     ensures path { λ _. ⌜ now (path .exit) ≡ judge (now (words .entry)) (now (lemmas .entry)) (now (graph .entry)) (now (path .entry)) .path ⌝ }
-    ensures demand2 { λ _. ⌜ Demand2Of (read (now (words .entry))) (now (lemmas .entry)) ⌝ }
+    ensures demand2 { λ r. ⌜ Demand2Of (now (words .entry)) (now (lemmas .entry)) r (now (graph .entry)) (now (graph .exit)) (now (path .entry)) (now (path .exit)) ⌝ }
     ensures demand3 { λ r. ⌜ ((nodes edges : ℕ) → r ≡ Safe nodes edges → SafeOf (read (now (words .entry)))) ⌝ }
-    ensures walk { λ _. ⌜ WalksOf (read (now (words .entry))) (now (lemmas .entry)) ⌝ }
 {
     if graph.len() < 9216 {
         return Judged::Refused(Refusal::Short(0));

@@ -1,3 +1,4 @@
+pub mod Refusing
 pub mod LemmaLaws
 pub mod SourceLaws
 pub mod Slots

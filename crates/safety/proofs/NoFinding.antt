@@ -14,8 +14,8 @@ use Rattle.programs.proofs.Places.{noneAction}
 use Rattle.runs.specs.Runs.{actionOf, someMet, forbidden}
 use Rattle.lemmas.specs.Lemmas.{Lemma}
 use Rattle.formula.specs.Formula.{Literal}
-use Rattle.search.specs.Search.{Graph, count, edge}
-use Rattle.abstraction.specs.Abstraction.{literalsIn, applies}
+use Rattle.search.specs.Search.{Graph, count}
+use Rattle.abstraction.specs.Abstraction.{literalsIn, applies, successor}
 use Rattle.abstraction.specs.Faithful.{literalsAt}
 use Rattle.verdict.specs.Verdicts.{Finding, RunOff, Forbid, contradicted, unless, forbids, ends, hasNext, runsOff, findingsAt, findingsFrom, findings}
 use Rattle.safety.proofs.Literals.{TrueAt, not-met}
@@ -54,20 +54,20 @@ ends-none shows k j (x ∷ ss) e =
 
 module _ (p : Program) (ls : List Lemma) (g : Graph) where
   abbrev linked : ℕ → ℕ → Bool
-  linked k j = hasNext (edge (length (p .actions)) g k j)
+  linked k j = hasNext (successor p ls j (literalsAt g k))
 
   abbrev endsAt : ℕ → ℕ → Action → List Finding
   endsAt k j a = ends (applies p ls j (literalsAt g k)) k j (a .sets)
 
-  runs-off-none : (k i : ℕ) (xs : List Action) → runsOff p ls g k i xs ≡ [] → (j n : ℕ) → j ≡ i + n → n < length xs → linked k j ≡ true → endsAt k j (getD xs n noneAction) ≡ []
+  runs-off-none : (k i : ℕ) (xs : List Action) → runsOff p ls (literalsAt g k) k i xs ≡ [] → (j n : ℕ) → j ≡ i + n → n < length xs → linked k j ≡ true → endsAt k j (getD xs n noneAction) ≡ []
   unfolding runsOff
   runs-off-none k i [] e j n q l h = absurd (not-suc-le-zero l)
   runs-off-none k i (a ∷ xs) e j zero q l h =
       let same : i ≡ j = omega arith in
-      let first = none-split (cond (linked k i) (endsAt k i a) []) (runsOff p ls g k (suc i) xs) e .0 in
+      let first = none-split (cond (linked k i) (endsAt k i a) []) (runsOff p ls (literalsAt g k) k (suc i) xs) e .0 in
       rw (same, h) at first
   runs-off-none k i (a ∷ xs) e j (suc n) q l h =
-      runs-off-none k (suc i) xs (none-split (cond (linked k i) (endsAt k i a) []) (runsOff p ls g k (suc i) xs) e .1) j n (omega arith) (le-of-suc-le-suc l) h
+      runs-off-none k (suc i) xs (none-split (cond (linked k i) (endsAt k i a) []) (runsOff p ls (literalsAt g k) k (suc i) xs) e .1) j n (omega arith) (le-of-suc-le-suc l) h
 
   -- ---- the graph
   from-none : (i n : ℕ) → findingsFrom p ls g i n ≡ [] → (k j : ℕ) → j ≡ i + k → k < n → findingsAt p ls g j ≡ []
@@ -79,8 +79,8 @@ module _ (p : Program) (ls : List Lemma) (g : Graph) where
   from-none i (suc n) e (suc k) j q l = from-none (suc i) n (none-split (findingsAt p ls g i) (findingsFrom p ls g (suc i) n) e .1) k j (omega arith) (le-of-suc-le-suc l)
 
   module _ (none : findings p ls g ≡ []) (k : ℕ) (stored : k < count g) where
-    at-node : (forbids k (literalsAt g k) 0 (p .forbidden) ≡ []) × (runsOff p ls g k 0 (p .actions) ≡ [])
-    at-node = none-split (forbids k (literalsAt g k) 0 (p .forbidden)) (runsOff p ls g k 0 (p .actions)) (from-none 0 (count g) none k k (omega arith) stored)
+    at-node : (forbids k (literalsAt g k) 0 (p .forbidden) ≡ []) × (runsOff p ls (literalsAt g k) k 0 (p .actions) ≡ [])
+    at-node = none-split (forbids k (literalsAt g k) 0 (p .forbidden)) (runsOff p ls (literalsAt g k) k 0 (p .actions)) (from-none 0 (count g) none k k (omega arith) stored)
 
     -- no state that the node describes is forbidden
     pub not-forbidden : (s : List ℤ) → Each (TrueAt p s) (literalsAt g k) → forbidden p s ≡ false

@@ -32,14 +32,14 @@ record Known (p : Program) (g : Graph) (s : List ℤ) : Type 0 where
   stored : node < count g
   described : Each (TrueAt p s) (literalsAt g node)
 
--- an edge leads to a stored node whose literals are true
-record Next (p : Program) (g : Graph) (t : List ℤ) (e : Answer) : Type 0 where
-  linked : hasNext e ≡ true
+-- formula (3) gives a successor, and its literals, which are true, are a stored node's
+record Next (p : Program) (g : Graph) (t : List ℤ) (f : Monomial) : Type 0 where
+  linked : hasNext f ≡ true
   node : ℕ
   stored : node < count g
   described : Each (TrueAt p t) (literalsAt g node)
 
-next : (p : Program) (g : Graph) (t : List ℤ) (f : Monomial) (e : Answer) → Describes p t f → Leads g f e → Next p g t e
+next : (p : Program) (g : Graph) (t : List ℤ) (f : Monomial) (e : Answer) → Describes p t f → Leads g f e → Next p g t f
 next p g t False e d l = absurd d
 next p g t (And m) (To i) d l = record { linked = refl; node = i; stored = l .0; described = rw (l .1) d }
 next p g t (And m) None d l = absurd l

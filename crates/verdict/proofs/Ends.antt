@@ -23,36 +23,36 @@ use Rattle.lemmas.proofs.LemmaLaws.{action-rising}
 use Rattle.lemmas.proofs.HeadLaws.{goal-by}
 use Rattle.sets.specs.Sets.{Member}
 use Rattle.sets.proofs.Bits.{bit-zero}
-use Rattle.gather.specs.Gathering.{Goal, low-end, high-end, Entry, placeOf, gathered, askEnds, firstMissing}
+use Rattle.gather.specs.Gathering.{Goal, low-end, high-end, Entry, placeOf, gathered, successorOf, askEnds, firstMissing}
 use Rattle.gather.proofs.Shown.{never, ask-is, missing-is}
 use Rattle.search.proofs.Count.{lt-or-le, eq-or-ne}
 use Rattle.abstraction.specs.Abstraction.{literalsIn, applies}
 use Rattle.verdict.specs.Verdicts.{Finding, ends}
 use Rattle.verdict.specs.declared.Found.the-variants.{Nothing}
 use Rattle.verdict.specs.declared.Found.the-variants.{RunOff as MayRunOff}
-use Rattle.verdict.specs.Working.{endsTo, endsOf, foundOf, endAt, firstOff}
+use Rattle.verdict.specs.Working.{endsTo, endsOf, foundOf, endAt, given, firstUnshown}
 use Rattle.verdict.proofs.Combinations.{or-right}
 
 -- ---- the loop over the actions
-module _ (leads : ℕ → Bool) (asked shown : List ℕ) (k n j : ℕ) (same : firstOff leads asked shown k j (n - j) ≡ firstOff leads asked shown k 0 n) where
+module _ (asked shown : List ℕ) (k n j : ℕ) (same : firstUnshown asked shown k j (n - j) ≡ firstUnshown asked shown k 0 n) where
   module _ (h : j < n) where
-    off-at : firstOff leads asked shown k j (n - j)
-        ≡ cond (leads j) (endAt k j (firstMissing (getD asked j 0) (getD shown j 0)) (firstOff leads asked shown k (j + 1) (n - (j + 1)))) (firstOff leads asked shown k (j + 1) (n - (j + 1)))
-    unfolding firstOff
+    off-at : firstUnshown asked shown k j (n - j)
+        ≡ cond (given (successorOf (getD shown j 0))) (endAt k j (firstMissing (getD asked j 0) (getD shown j 0)) (firstUnshown asked shown k (j + 1) (n - (j + 1)))) (firstUnshown asked shown k (j + 1) (n - (j + 1)))
+    unfolding firstUnshown
     off-at = let e : n - j ≡ suc (n - (j + 1)) = omega arith in rw (e, add-one j) refl
 
-    pub off-skip : leads j ≡ false → firstOff leads asked shown k (j + 1) (n - (j + 1)) ≡ firstOff leads asked shown k 0 n
+    pub off-skip : given (successorOf (getD shown j 0)) ≡ false → firstUnshown asked shown k (j + 1) (n - (j + 1)) ≡ firstUnshown asked shown k 0 n
     off-skip b = sym (off-at ∙ rw b refl) ∙ same
 
-    module _ (b : leads j ≡ true) (m : ℕ) (is : m ≡ firstMissing (getD asked j 0) (getD shown j 0)) where
-      pub off-kept : 64 ≤ m → firstOff leads asked shown k (j + 1) (n - (j + 1)) ≡ firstOff leads asked shown k 0 n
+    module _ (b : given (successorOf (getD shown j 0)) ≡ true) (m : ℕ) (is : m ≡ firstMissing (getD asked j 0) (getD shown j 0)) where
+      pub off-kept : 64 ≤ m → firstUnshown asked shown k (j + 1) (n - (j + 1)) ≡ firstUnshown asked shown k 0 n
       off-kept l = sym (off-at ∙ rw (b, ← is, le-ltb m 64 l) refl) ∙ same
 
-      pub off-here : m < 64 → MayRunOff k j (m / 2 % 14) (eqb (m % 2) 1) ≡ firstOff leads asked shown k 0 n
+      pub off-here : m < 64 → MayRunOff k j (m / 2 % 14) (eqb (m % 2) 1) ≡ firstUnshown asked shown k 0 n
       off-here l = sym (off-at ∙ rw (b, ← is, lt-ltb m 64 l) refl) ∙ same
 
-  pub off-end : n ≤ j → Nothing ≡ firstOff leads asked shown k 0 n
-  unfolding firstOff
+  pub off-end : n ≤ j → Nothing ≡ firstUnshown asked shown k 0 n
+  unfolding firstUnshown
   off-end h = let e : n - j ≡ 0 = omega arith in rw e at same
 
 -- ---- the places that are asked for

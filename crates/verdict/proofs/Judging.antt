@@ -2,18 +2,16 @@
 --     node-forbids, node-off              the two answers at a node are the first of its findings
 --     nothing-yet, found-here, found-none the loop over the nodes
 --     off-within, within-more             the node of what is found
---     judged                              a program that has been read, and its whole graph, are judged
+--     judged                              a program that has been read, and its graph, are judged
 use mathlib.Core.Path.{_≡_, refl, sym, ap, _∙_}
-use mathlib.Core.Bool.{Bool, true, false, cond, not}
+use mathlib.Core.Bool.{Bool, true, false, cond}
 use mathlib.Core.List.{List, [], _∷_, _++_}
 use Prim.Native.Nat.{ℕ, zero, suc, _+_, _-_, _^_, _<_, _≤_}
 use native.Mathlib.Omega.{arith}
 use native.Mathlib.Numerals.{add-one}
-use native.Mathlib.Nat.{mul-add-mod-self-right, mod-eq-of-lt}
-use lib.Dec.{eqb, ltb}
+use lib.Dec.{ltb}
 use lib.ListN.{length, getD, take, drop, replicate, length-drop, length-replicate}
 use lib.Seq.{sets, sets-eq, take-at, getD-drop, drop-drop}
-use borrow.Author.Tests.{ne-eqb}
 use Rattle.words.specs.Words.{payload, noLiterals}
 use Rattle.words.specs.declared.Literals.{Literals}
 use Rattle.grammar.specs.Programs.{Action, Program}
@@ -22,20 +20,18 @@ use Rattle.programs.proofs.Places.{noneAction}
 use Rattle.runs.specs.Runs.{has}
 use Rattle.lemmas.specs.Lemmas.{Lemma}
 use Rattle.lemmas.specs.Sources.{theProgram, Held}
-use Rattle.gather.specs.Gathering.{Goal, Entry, Table, placeOf, gathered, firstMissing}
-use Rattle.search.specs.Search.{Answer, To, None, Graph, Done, count, nodeWord, edge}
-use Rattle.search.proofs.Sound.{Leads}
-use Rattle.search.proofs.Theorem.{Whole}
-use Rattle.records.specs.Records.{edgeWord, mostNodes, graphWords, recordPlace, edgePlace, graphList}
-use Rattle.records.proofs.Listed.{record-at, edge-at}
-use Rattle.abstraction.specs.Abstraction.{literalsIn, applies}
+use Rattle.gather.specs.Gathering.{Goal, Entry, Table, placeOf, gathered, successorOf, firstMissing}
+use Rattle.search.specs.Search.{Graph, Done, count, nodeWord}
+use Rattle.records.specs.Records.{graphWords, recordPlace, graphList}
+use Rattle.records.proofs.Listed.{record-at}
+use Rattle.abstraction.specs.Abstraction.{literalsIn, applies, successor}
 use Rattle.abstraction.specs.Faithful.{literalsAt}
 use Rattle.verdict.specs.Verdicts.{Finding, Forbid, RunOff, ends, hasNext, runsOff, findingsAt, findingsFrom, findings}
 use Rattle.verdict.specs.declared.Found.{Found}
 use Rattle.verdict.specs.declared.Found.the-variants.{Nothing}
 use Rattle.verdict.specs.declared.Found.the-variants.{Forbid as MayForbid}
 use Rattle.verdict.specs.declared.Found.the-variants.{RunOff as MayRunOff}
-use Rattle.verdict.specs.Working.{endsOf, askedEnds, foundOf, Within, firstFree, leadsAt, endAt, firstOff, Names, Judged}
+use Rattle.verdict.specs.Working.{endsOf, askedEnds, foundOf, Within, firstFree, given, endAt, firstUnshown, Judging}
 use Rattle.verdict.proofs.Asked.{asked-at}
 use Rattle.verdict.proofs.Combinations.{forbids-here, forbids-none}
 use Rattle.verdict.proofs.Ends.{ends-found}
@@ -56,44 +52,30 @@ from-j xs j x rest e =
       ap (λ (y : ℕ). drop y xs) (sym one) ∙ sym (drop-drop 1 j xs) ∙ ap (drop 1) e,
     )
 
--- ---- the words of a graph list
-leads-as : (e : Answer) → Names e → not (eqb (payload (edgeWord e)) (2 ^ 28 - 1)) ≡ hasNext e
-leads-as (To m) h =
-    let e : payload (edgeWord (To m)) ≡ m = mul-add-mod-self-right 12 (2 ^ 28) m ∙ mod-eq-of-lt (omega arith) in
-    rw (e, ne-eqb m (2 ^ 28 - 1) (λ z. omega arith)) refl
-leads-as None h = refl
-
 module _ {p : Program} {ls : List Lemma} {g : Graph} {es : List Entry} {literals : List Literals} {forbidden : ℕ} {asked : List ℕ} {actions : ℕ} {l : List ℕ}
-    (J : Judged p ls g es literals forbidden asked actions l) (k : ℕ) (hk : k < count g) where
+    (J : Judging p ls g es literals forbidden asked actions l) (k : ℕ) (hk : k < count g) where
   node-at : getD l (recordPlace actions k) 0 ≡ nodeWord g k
   node-at =
       let e : recordPlace actions k + 0 ≡ recordPlace actions k = omega arith in
       ap (λ (y : ℕ). getD l y 0) (sym e) ∙ rw (J .listed .1) (record-at actions g (count g) (replicate (graphWords - recordPlace actions (count g)) 0 ++ drop graphWords (J .listed .0)) k 0 hk (omega arith))
 
-  leads-is : (j : ℕ) → j < length (p .actions) → leadsAt l actions k j ≡ hasNext (edge (length (p .actions)) g k j)
-  leads-is j hj =
-      let lt : j < actions = omega (arith, J .action-count) in
-      let e : getD l (edgePlace actions k j) 0 ≡ edgeWord (edge actions g k j) =
-      rw (J .listed .1) (edge-at actions g (count g) (replicate (graphWords - recordPlace actions (count g)) 0 ++ drop graphWords (J .listed .0)) k j hk lt) in
-      rw e (leads-as (edge actions g k j) (J .names k j hk lt)) ∙ ap (λ (a : ℕ). hasNext (edge a g k j)) (J .action-count)
-
   -- ---- the actions from j on
   module _ (shown : List ℕ) (T : Table (payload (nodeWord g k)) es shown) where
-    runs-from : (xs : List Action) (j : ℕ) → drop j (p .actions) ≡ xs → firstOff (leadsAt l actions k) asked shown k j (length xs) ≡ foundOf (runsOff p ls g k j xs)
-    unfolding firstOff runsOff
+    runs-from : (xs : List Action) (j : ℕ) → drop j (p .actions) ≡ xs → firstUnshown asked shown k j (length xs) ≡ foundOf (runsOff p ls (literalsAt g k) k j xs)
+    unfolding firstUnshown runsOff
     runs-from [] j e = refl
     runs-from (x ∷ xs) j e =
         let (lt, is, rest) = from-j (p .actions) j x xs e in
         let few = J .good .actions .few in
         let set = payload (nodeWord g k) in
         let asks : getD asked j 0 ≡ endsOf x = ap (λ (y : List ℕ). getD y j 0) (J .ends) ∙ asked-at p j lt few ∙ ap endsOf is in
-        rw (leads-is j lt, asks, T .same j (omega arith), runs-from xs (suc j) rest)
-        (go (hasNext (edge (length (p .actions)) g k j)) (ends-found p ls es (J .good) (J .applying) set k j x is (runsOff p ls g k (suc j) xs)))
+        rw (asks, T .same j (omega arith), J .leading j set, runs-from xs (suc j) rest)
+        (go (hasNext (successor p ls j (literalsAt g k))) (ends-found p ls es (J .good) (J .applying) set k j x is (runsOff p ls (literalsAt g k) k (suc j) xs)))
       where
         go : (b : Bool)
-            → foundOf (ends (applies p ls j (literalsAt g k)) k j (x .sets) ++ runsOff p ls g k (suc j) xs) ≡ endAt k j (firstMissing (endsOf x) (gathered j (payload (nodeWord g k)) es)) (foundOf (runsOff p ls g k (suc j) xs))
-            → cond b (endAt k j (firstMissing (endsOf x) (gathered j (payload (nodeWord g k)) es)) (foundOf (runsOff p ls g k (suc j) xs))) (foundOf (runsOff p ls g k (suc j) xs))
-            ≡ foundOf (cond b (ends (applies p ls j (literalsAt g k)) k j (x .sets)) [] ++ runsOff p ls g k (suc j) xs)
+            → foundOf (ends (applies p ls j (literalsAt g k)) k j (x .sets) ++ runsOff p ls (literalsAt g k) k (suc j) xs) ≡ endAt k j (firstMissing (endsOf x) (gathered j (payload (nodeWord g k)) es)) (foundOf (runsOff p ls (literalsAt g k) k (suc j) xs))
+            → cond b (endAt k j (firstMissing (endsOf x) (gathered j (payload (nodeWord g k)) es)) (foundOf (runsOff p ls (literalsAt g k) k (suc j) xs))) (foundOf (runsOff p ls (literalsAt g k) k (suc j) xs))
+            ≡ foundOf (cond b (ends (applies p ls j (literalsAt g k)) k j (x .sets)) [] ++ runsOff p ls (literalsAt g k) k (suc j) xs)
         go true h = sym h
         go false h = refl
 
@@ -114,19 +96,19 @@ module _ {p : Program} {ls : List Lemma} {g : Graph} {es : List Entry} {literals
     pub node-forbids : b < forbidden → MayForbid k b ≡ foundOf (findingsAt p ls g k)
     node-forbids h =
         ap (MayForbid k) free-is
-        ∙ forbids-here (length (p .predicates)) (payload (nodeWord g k)) small k (runsOff p ls g k 0 (p .actions)) (p .forbidden) (J .good .forbidden .each) (omega (arith, free-is, J .forbidden-count))
+        ∙ forbids-here (length (p .predicates)) (payload (nodeWord g k)) small k (runsOff p ls (literalsAt g k) k 0 (p .actions)) (p .forbidden) (J .good .forbidden .each) (omega (arith, free-is, J .forbidden-count))
 
-    pub node-off : forbidden ≤ b → (shown : List ℕ) → Table (payload w) es shown → (r : Found) → r ≡ firstOff (leadsAt l actions k) asked shown k 0 actions → r ≡ foundOf (findingsAt p ls g k)
+    pub node-off : forbidden ≤ b → (shown : List ℕ) → Table (payload w) es shown → (r : Found) → r ≡ firstUnshown asked shown k 0 actions → r ≡ foundOf (findingsAt p ls g k)
     node-off h shown T r ir =
-        ir ∙ ap (λ (n : ℕ). firstOff (leadsAt l actions k) asked shown k 0 n) (J .action-count) ∙ runs-from shown (rw set-is at T) (p .actions) 0 refl
-        ∙ forbids-none (length (p .predicates)) (payload (nodeWord g k)) small k (runsOff p ls g k 0 (p .actions)) (p .forbidden) (J .good .forbidden .each) (omega (arith, free-is, J .forbidden-count))
+        ir ∙ ap (λ (n : ℕ). firstUnshown asked shown k 0 n) (J .action-count) ∙ runs-from shown (rw set-is at T) (p .actions) 0 refl
+        ∙ forbids-none (length (p .predicates)) (payload (nodeWord g k)) small k (runsOff p ls (literalsAt g k) k 0 (p .actions)) (p .forbidden) (J .good .forbidden .each) (omega (arith, free-is, J .forbidden-count))
 
 -- ---- the node of what is found
-pub off-within : (leads : ℕ → Bool) (asked shown : List ℕ) (k j n : ℕ) → Within (k + 1) (firstOff leads asked shown k j n)
-unfolding firstOff
-off-within leads asked shown k j zero = tt
-off-within leads asked shown k j (suc n) =
-    go (leads j) (ltb (firstMissing (getD asked j 0) (getD shown j 0)) 64) _ _ (firstOff leads asked shown k (suc j) n) (off-within leads asked shown k (suc j) n)
+pub off-within : (asked shown : List ℕ) (k j n : ℕ) → Within (k + 1) (firstUnshown asked shown k j n)
+unfolding firstUnshown
+off-within asked shown k j zero = tt
+off-within asked shown k j (suc n) =
+    go (given (successorOf (getD shown j 0))) (ltb (firstMissing (getD asked j 0) (getD shown j 0)) 64) _ _ (firstUnshown asked shown k (suc j) n) (off-within asked shown k (suc j) n)
   where
     go : (b m : Bool) (v : ℕ) (high : Bool) (rest : Found) → Within (k + 1) rest → Within (k + 1) (cond b (cond m (MayRunOff k j v high) rest) rest)
     go true true v high rest h = omega arith
@@ -175,27 +157,19 @@ module _ (p : Program) (ls : List Lemma) (g : Graph) (nodes : ℕ) where
     unfolding findingsFrom
     found-none h = let e : nodes - k ≡ 0 = omega arith in rw e at same
 
--- ---- a whole graph of a program that has been read
-module _ {start : Answer} {next : ℕ → ℕ → Answer} {a : ℕ} {g : Graph} (v : Whole start next a mostNodes g) where
-  named : (k j : ℕ) → k < count g → j < a → Names (edge a g k j)
-  named k j hk hj = go (edge a g k j) (v .leads k j hk hj)
-    where
-      go : (e : Answer) → Leads next (g .words) k j e → Names e
-      go (To m) c = omega (arith, c .0, v .within)
-      go None c = tt
-
+-- ---- a graph of a program that has been read
 pub judged : {ws : List ℕ} {image : Image} → Held ws image → {ls : List Lemma} {es : List Entry}
     → ((source set goal index : ℕ) → Goal goal index → has (placeOf goal index) (gathered source set es) ≡ applies (theProgram ws) ls source (literalsIn 14 set) goal index)
-    → {start : Answer} {next : ℕ → ℕ → Answer} {g : Graph} → Whole start next (image .actions) mostNodes g
+    → ((source set : ℕ) → given (successorOf (gathered source set es)) ≡ hasNext (successor (theProgram ws) ls source (literalsIn 14 set))) → {g : Graph}
     → {l : List ℕ} (l₀ : List ℕ) → l ≡ graphList (image .actions) (Done g) l₀
-    → Judged (theProgram ws) ls g es (image .literals) (image .forbidden) (askedEnds (theProgram ws)) (image .actions) l
-judged h applying v l₀ e = record {
+    → Judging (theProgram ws) ls g es (image .literals) (image .forbidden) (askedEnds (theProgram ws)) (image .actions) l
+judged h applying leading l₀ e = record {
   good = h .accepted .good;
   combinations = ap (λ (y : Image). y .literals) (h .same);
   forbidden-count = ap (λ (y : Image). y .forbidden) (h .same);
   ends = refl;
   action-count = ap (λ (y : Image). y .actions) (h .same);
   listed = (l₀, e);
-  names = named v;
   applying = applying;
+  leading = leading;
 }

@@ -5,8 +5,8 @@
 -- unless    — what is found unless a test holds
 -- forbids   — the combinations that no literal of the node contradicts
 -- ends      — the ends of an action's variables that no lemma shows at the node
--- hasNext   — an edge names a successor
--- runsOff   — those ends, of the actions from j on that have a successor
+-- hasNext   — formula (3) gives a successor
+-- runsOff   — those ends, of the actions from j on that have a successor at a node with the literals m
 -- findingsAt, findingsFrom, findings — at node k; from node k on; of the graph
 -- nodeOf    — the node of a finding
 -- stepWord, pathList — the path in its list: STEP words, then zeros up to 512, then what was there
@@ -18,11 +18,11 @@ use Rattle.words.specs.Words.{word}
 use Rattle.words.specs.declared.Literals.{Literals}
 use Rattle.grammar.specs.Programs.{Assignment, Action, Program}
 use Rattle.lemmas.specs.Lemmas.{Lemma}
-use Rattle.formula.specs.Formula.{Literal, B, NotB}
-use Rattle.search.specs.Search.{Answer, To, None, Graph, count, edge}
+use Rattle.formula.specs.Formula.{Literal, B, NotB, Monomial, False, And}
+use Rattle.search.specs.Search.{Graph, count}
 use Rattle.search.specs.Paths.{path}
 use Rattle.records.specs.Records.{mostNodes}
-use Rattle.abstraction.specs.Abstraction.{literalsIn, among, applies}
+use Rattle.abstraction.specs.Abstraction.{literalsIn, among, applies, successor}
 use Rattle.abstraction.specs.Faithful.{literalsAt}
 
 -- node and combination; node, action, variable, and whether it is the high end
@@ -53,18 +53,17 @@ ends shows k j [] = []
 ends shows k j (s ∷ ss) =
     unless (shows 3 (s .variable)) (RunOff k j (s .variable) false) ++ (unless (shows 4 (s .variable)) (RunOff k j (s .variable) true) ++ ends shows k j ss)
 
-abbrev pub hasNext : Answer → Bool
-hasNext (To n) = true
-hasNext None = false
+abbrev pub hasNext : Monomial → Bool
+hasNext False = false
+hasNext (And m) = true
 
 -- Then each action that has a successor.
-unfoldable pub runsOff : Program → List Lemma → Graph → ℕ → ℕ → List Action → List Finding
-runsOff p ls g k j [] = []
-runsOff p ls g k j (a ∷ rest) =
-    cond (hasNext (edge (length (p .actions)) g k j)) (ends (applies p ls j (literalsAt g k)) k j (a .sets)) [] ++ runsOff p ls g k (suc j) rest
+unfoldable pub runsOff : Program → List Lemma → List Literal → ℕ → ℕ → List Action → List Finding
+runsOff p ls m k j [] = []
+runsOff p ls m k j (a ∷ rest) = cond (hasNext (successor p ls j m)) (ends (applies p ls j m) k j (a .sets)) [] ++ runsOff p ls m k (suc j) rest
 
 abbrev pub findingsAt : Program → List Lemma → Graph → ℕ → List Finding
-findingsAt p ls g k = forbids k (literalsAt g k) 0 (p .forbidden) ++ runsOff p ls g k 0 (p .actions)
+findingsAt p ls g k = forbids k (literalsAt g k) 0 (p .forbidden) ++ runsOff p ls (literalsAt g k) k 0 (p .actions)
 
 -- Nodes in number order: n of them from node k on.
 unfoldable pub findingsFrom : Program → List Lemma → Graph → ℕ → ℕ → List Finding

@@ -7,17 +7,17 @@
 -- foundAs, foundOf — a finding; the first of some, or nothing
 -- Within          — the node of what is found is below n
 -- firstFree       — the first combination that no literal of a set contradicts, or their count
--- leadsAt         — the edge word of node k and action j names a successor
--- endAt, firstOff — what the place of a missing end says; what is found at node k of the actions from j on
--- Names, Judged   — an edge names a node; what the judge works on belongs to a program, a lemma list and their graph
+-- given           — there is a successor
+-- endAt, firstUnshown — what the place of a missing end says; what is found at node k of the actions from j on
+-- Judging         — what the judge works on belongs to a program, a lemma list and their graph
 use mathlib.Core.Path.{_≡_}
-use mathlib.Core.Bool.{Bool, true, false, cond, not}
+use mathlib.Core.Bool.{Bool, true, false, cond}
 use mathlib.Core.List.{List, [], _∷_, map}
 use Prim.Native.Nat.{ℕ, zero, suc, _+_, _-_, _/_, _%_, _^_, _<_, _≤_}
 use lib.Dec.{eqb, ltb}
 use lib.ListN.{length, getD, replicate}
 use lib.Seq.{sets}
-use Rattle.words.specs.Words.{payload, noLiterals}
+use Rattle.words.specs.Words.{noLiterals}
 use Rattle.words.specs.declared.Literals.{Literals}
 use Rattle.grammar.specs.Programs.{Action, Program}
 use Rattle.grammar.specs.WellFormed.{WellFormed}
@@ -25,11 +25,14 @@ use Rattle.actions.specs.Results.{marked, noMarks}
 use Rattle.runs.specs.Runs.{has}
 use Rattle.lemmas.specs.Lemmas.{Lemma}
 use Rattle.sets.specs.Sets.{clashes}
-use Rattle.gather.specs.Gathering.{Goal, Entry, placeOf, gathered, askEnds, firstMissing}
-use Rattle.search.specs.Search.{Answer, To, None, Origin, Root, From, Graph, Done, count, origin, edge}
-use Rattle.records.specs.Records.{originWord, mostNodes, recordPlace, edgePlace, graphList}
-use Rattle.abstraction.specs.Abstraction.{literalsIn, applies}
-use Rattle.verdict.specs.Verdicts.{Finding, Forbid, RunOff}
+use Rattle.gather.specs.Gathering.{Goal, Entry, placeOf, gathered, successorOf, askEnds, firstMissing}
+use Rattle.gather.specs.declared.Successor.{Successor}
+use Rattle.gather.specs.declared.Successor.the-variants.{Set}
+use Rattle.gather.specs.declared.Successor.the-variants.{Nothing as NoSet}
+use Rattle.search.specs.Search.{Origin, Root, From, Graph, Done, count, origin}
+use Rattle.records.specs.Records.{originWord, mostNodes, recordPlace, graphList}
+use Rattle.abstraction.specs.Abstraction.{literalsIn, applies, successor}
+use Rattle.verdict.specs.Verdicts.{Finding, Forbid, RunOff, hasNext}
 use Rattle.verdict.specs.declared.Found.{Found}
 use Rattle.verdict.specs.declared.Found.the-variants.{Nothing}
 use Rattle.verdict.specs.declared.Found.the-variants.{Forbid as MayForbid}
@@ -86,31 +89,28 @@ unfoldable pub firstFree : ℕ → List Literals → ℕ
 firstFree set [] = 0
 firstFree set (c ∷ cs) = cond (clashes (c .0) set) (suc (firstFree set cs)) 0
 
--- all 28 bits ones for none
-abbrev pub leadsAt : List ℕ → ℕ → ℕ → ℕ → Bool
-leadsAt l a k j = not (eqb (payload (getD l (edgePlace a k j) 0)) (2 ^ 28 - 1))
+abbrev pub given : Successor → Bool
+given (Set s) = true
+given NoSet = false
 
 -- variable v has the places 28 + 2v and 29 + 2v
 abbrev pub endAt : ℕ → ℕ → ℕ → Found → Found
 endAt k j place other = cond (ltb place 64) (MayRunOff k j (place / 2 % 14) (eqb (place % 2) 1)) other
 
--- n actions from j on; the first argument says which have a successor
-unfoldable pub firstOff : (ℕ → Bool) → List ℕ → List ℕ → ℕ → ℕ → ℕ → Found
-firstOff leads asked shown k j zero = Nothing
-firstOff leads asked shown k j (suc n) =
-    cond (leads j) (endAt k j (firstMissing (getD asked j 0) (getD shown j 0)) (firstOff leads asked shown k (suc j) n)) (firstOff leads asked shown k (suc j) n)
+-- n actions from j on, of those that have a successor
+unfoldable pub firstUnshown : List ℕ → List ℕ → ℕ → ℕ → ℕ → Found
+firstUnshown asked shown k j zero = Nothing
+firstUnshown asked shown k j (suc n) =
+    cond (given (successorOf (getD shown j 0))) (endAt k j (firstMissing (getD asked j 0) (getD shown j 0)) (firstUnshown asked shown k (suc j) n))
+    (firstUnshown asked shown k (suc j) n)
 
 -- ---- what is judged
-abbrev pub Names : Answer → Type 0
-Names (To m) = m < mostNodes
-Names None = Unit {0}
-
-pub record Judged (p : Program) (ls : List Lemma) (g : Graph) (es : List Entry) (literals : List Literals) (forbidden : ℕ) (asked : List ℕ) (actions : ℕ) (l : List ℕ) : Type 0 where
+pub record Judging (p : Program) (ls : List Lemma) (g : Graph) (es : List Entry) (literals : List Literals) (forbidden : ℕ) (asked : List ℕ) (actions : ℕ) (l : List ℕ) : Type 0 where
   pub good : WellFormed p
   pub combinations : literals ≡ sets (replicate 8 noLiterals) 0 (p .forbidden)
   pub forbidden-count : forbidden ≡ length (p .forbidden)
   pub ends : asked ≡ askedEnds p
   pub action-count : actions ≡ length (p .actions)
   pub listed : (l₀ : List ℕ) × (l ≡ graphList actions (Done g) l₀)
-  pub names : (k j : ℕ) → k < count g → j < actions → Names (edge actions g k j)
   pub applying : (source set goal index : ℕ) → Goal goal index → has (placeOf goal index) (gathered source set es) ≡ applies p ls source (literalsIn 14 set) goal index
+  pub leading : (source set : ℕ) → given (successorOf (gathered source set es)) ≡ hasNext (successor p ls source (literalsIn 14 set))

@@ -7,11 +7,12 @@ ghost use Rattle.words.specs.Words.{word};
 ghost use Rattle.grammar.specs.Programs.{Program};
 ghost use Rattle.lemmas.specs.Lemmas.{Lemma};
 ghost use Rattle.lemmas.specs.Sources.{theProgram, Held};
-ghost use Rattle.gather.specs.Gathering.{entries};
+ghost use Rattle.gather.specs.Gathering.{entries, successorOf};
 ghost use Rattle.search.specs.Search.{Graph, Done, count};
 ghost use Rattle.records.specs.Records.{mostNodes, graphWords, graphList};
 ghost use Rattle.verdict.specs.Verdicts.{findingsAt, findings, STEP, pathWords, pathList, stepsTo};
-ghost use Rattle.verdict.specs.Working.{originAt, backAt, Traced, endsTo, askedEnds, foundOf, Within, firstFree, leadsAt, firstOff, Judged};
+ghost use Rattle.verdict.specs.Working.{originAt, backAt, Traced, endsTo, askedEnds, foundOf, Within, firstFree, given, firstUnshown, Judging};
+use gather::Successor;
 use programs::Image;
 use words::Literals;
 
@@ -142,25 +143,28 @@ fn first_free(literals: [Literals; 8], n: usize, set: u32) -> usize
     i
 }
 
-// Does the edge of node k and action j name a successor?
-fn leads(graph: &[u32], actions: usize, k: usize, j: usize) -> bool
-    requires { ⌜ (graphWords ≤ length (now graph)) × (actions ≤ 16) × (k < mostNodes) × (j < actions) ⌝ }
-    ensures { λ r. ⌜ r ≡ leadsAt (now (graph .entry)) actions k j ⌝ }
+// Does what is shown of an action give a successor?
+fn has_successor(shown: u64) -> bool
+    ensures { λ r. ⌜ r ≡ given (successorOf shown) ⌝ }
 {
-    let at = records::edge_place(actions, k, j);
-    graph[at] % 268435456 != 268435455
+    let next = gather::successor_of(shown);
+    match next {
+        Successor::Set(_) => true,
+        Successor::Nothing => false,
+    }
 }
 
 // The first end of a range that is asked for and not shown at node k, of the actions that have a successor there. The ends of variable v
 // have the places 28 + 2v and 29 + 2v.
-fn first_off(asked: [u64; 16], shown: [u64; 16], actions: usize, graph: &[u32], k: usize) -> Found
-    requires { ⌜ (graphWords ≤ length (now graph)) × (actions ≤ 16) × (k < mostNodes) ⌝ }
-    ensures { λ r. ⌜ r ≡ firstOff (leadsAt (now (graph .entry)) actions k) asked shown k 0 actions ⌝ }
+fn first_unshown(asked: [u64; 16], shown: [u64; 16], actions: usize, k: usize) -> Found
+    requires { ⌜ actions ≤ 16 ⌝ }
+    ensures { λ r. ⌜ r ≡ firstUnshown asked shown k 0 actions ⌝ }
 {
     let mut j: usize = 0;
     while j < actions {
-        if leads(graph, actions, k, j) {
-            let place = gather::first_missing(asked[j], shown[j]);
+        let seen = shown[j];
+        if has_successor(seen) {
+            let place = gather::first_missing(asked[j], seen);
             if place < 64 {
                 let v = (place / 2 % 14) as usize;
                 return Found::RunOff(k, j, v, place % 2 == 1);
@@ -184,7 +188,7 @@ fn found_at(
     k: usize,
 ) -> Found
     requires { ⌜ (n ≤ length (now premises)) × (n ≤ length (now keys)) × (forbidden ≤ 8) × (actions ≤ 16) × (graphWords ≤ length (now graph)) × (k < mostNodes) ⌝ }
-    ensures { λ r. ⌜ Within (k + 1) r × ((p : Program) (ls : List Lemma) (g : Graph) → Judged p ls g (entries (now (premises .entry)) (now (keys .entry)) n) literals forbidden asked actions (now (graph .entry)) → k < count g → r ≡ foundOf (findingsAt p ls g k)) ⌝ }
+    ensures { λ r. ⌜ Within (k + 1) r × ((p : Program) (ls : List Lemma) (g : Graph) → Judging p ls g (entries (now (premises .entry)) (now (keys .entry)) n) literals forbidden asked actions (now (graph .entry)) → k < count g → r ≡ foundOf (findingsAt p ls g k)) ⌝ }
 {
     let set = records::word_at(graph, actions, k) % 268435456;
     let b = first_free(literals, forbidden, set);
@@ -192,7 +196,7 @@ fn found_at(
         return Found::Forbid(k, b);
     }
     let shown = gather::gather_all(premises, keys, n, set);
-    first_off(asked, shown, actions, graph, k)
+    first_unshown(asked, shown, actions, k)
 }
 
 // What is found first in a graph, of a program's forbidden combinations and the ends that its actions have to keep to.
@@ -208,7 +212,7 @@ pub fn first_finding(
     nodes: usize,
 ) -> Found
     requires { ⌜ (n ≤ length (now premises)) × (n ≤ length (now keys)) × (forbidden ≤ 8) × (actions ≤ 16) × (graphWords ≤ length (now graph)) × (nodes ≤ mostNodes) ⌝ }
-    ensures { λ r. ⌜ Within nodes r × ((p : Program) (ls : List Lemma) (g : Graph) → Judged p ls g (entries (now (premises .entry)) (now (keys .entry)) n) literals forbidden asked actions (now (graph .entry)) → nodes ≡ count g → r ≡ foundOf (findings p ls g)) ⌝ }
+    ensures { λ r. ⌜ Within nodes r × ((p : Program) (ls : List Lemma) (g : Graph) → Judging p ls g (entries (now (premises .entry)) (now (keys .entry)) n) literals forbidden asked actions (now (graph .entry)) → nodes ≡ count g → r ≡ foundOf (findings p ls g)) ⌝ }
 {
     let mut k: usize = 0;
     while k < nodes {

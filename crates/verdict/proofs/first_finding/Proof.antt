@@ -9,14 +9,14 @@ use Rattle.grammar.specs.Programs.{Program}
 use Rattle.lemmas.specs.Lemmas.{Lemma}
 use Rattle.gather.specs.Gathering.{entries}
 use Rattle.search.specs.Search.{Graph, count}
-use Rattle.verdict.specs.Working.{Judged}
+use Rattle.verdict.specs.Working.{Judging}
 use Rattle.verdict.proofs.Judging.{Nothing-before, before-first, nothing-yet, found-here, found-none, within-more}
 use Rattle.verdict.proofs.first_finding.Statement.{statement}
 use Rattle.verdict.proofs.first_finding.Tie as tie
 
 abbrev Inv-loop : tie.InvT-loop
 Inv-loop premises keys n literals forbidden asked actions graph nodes k₀ k =
-    (k ≤ nodes) × ((p : Program) (ls : List Lemma) (g : Graph) → Judged p ls g (entries premises keys n) literals forbidden asked actions graph → nodes ≡ count g → Nothing-before p ls g nodes k)
+    (k ≤ nodes) × ((p : Program) (ls : List Lemma) (g : Graph) → Judging p ls g (entries premises keys n) literals forbidden asked actions graph → nodes ≡ count g → Nothing-before p ls g nodes k)
 
 abbrev μ-loop : tie.MeasureT-loop
 μ-loop premises keys n literals forbidden asked actions graph nodes k₀ k = nodes - k

@@ -2,7 +2,7 @@ use mathlib.Core.Path.{sym, subst}
 use Prim.Native.Nat.{_+_}
 use native.Mathlib.Omega.{arith}
 use borrow.Author.Needs.{needs}
-use Rattle.verdict.specs.Working.{Within, leadsAt}
+use Rattle.verdict.specs.Working.{Within}
 use Rattle.verdict.proofs.Judging.{node-forbids, node-off, off-within}
 use Rattle.verdict.proofs.found_at.Statement.{statement}
 use Rattle.verdict.proofs.found_at.Tie as tie
@@ -22,8 +22,8 @@ returns c =
 gather-all-requires : tie.Need-gather-all-requires
 gather-all-requires c κs = search needs
 
-first-off-requires : tie.Need-first-off-requires
-first-off-requires c κs = search needs
+first-unshown-requires : tie.Need-first-unshown-requires
+first-unshown-requires c κs = search needs
 
 returns-2 : tie.Need-returns-2
 returns-2 c =
@@ -31,8 +31,8 @@ returns-2 c =
     let w = q .before .word-at in
     let a = q .before .before .before .before .before .args in
     let shown = c .before .gather-all in (
-      subst (Within (a .k + 1)) (sym (c .first-off .ensures)) (off-within (leadsAt (a .graph .now) (a .actions) (a .k)) (a .asked) (shown .result) (a .k) 0 (a .actions)),
-      λ p ls g J h. node-off J (a .k) h (w .result) (q .first-free .result) (w .ensures) (q .first-free .ensures) (c .before .before .if1 .left) (shown .result) (shown .ensures) (c .first-off .result) (c .first-off .ensures),
+      subst (Within (a .k + 1)) (sym (c .first-unshown .ensures)) (off-within (a .asked) (shown .result) (a .k) 0 (a .actions)),
+      λ p ls g J h. node-off J (a .k) h (w .result) (q .first-free .result) (w .ensures) (q .first-free .ensures) (c .before .before .if1 .left) (shown .result) (shown .ensures) (c .first-unshown .result) (c .first-unshown .ensures),
     )
 
 pub found-at-spec : {M : Type 1} → statement M
@@ -43,5 +43,5 @@ found-at-spec =
     first-free-requires
     returns
     gather-all-requires
-    first-off-requires
+    first-unshown-requires
     returns-2)
