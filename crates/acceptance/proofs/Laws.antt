@@ -16,8 +16,8 @@ use Rattle.rows.specs.Bounds.{Small, Room, Read, noRow}
 use Rattle.rows.proofs.Laws.{room-weaken}
 use Rattle.runs.specs.Runs.{has, rowIf, literalRows}
 use Rattle.sums.specs.Sums.{combine, constRow}
-use Rattle.sums.specs.Fits.{RowFits, Single, Goal}
-use Rattle.sums.proofs.Room.{room-plus, room-negated, room-const, row-fits}
+use Rattle.sums.specs.Fits.{RowFits, Single, After}
+use Rattle.sums.proofs.Room.{room-plus, room-negated, room-const, row-fits, read-single}
 use Rattle.acceptance.specs.declared.Sum.{Sum}
 use Rattle.acceptance.specs.Adding.{multOf, addRow, addRows, Fine}
 
@@ -25,9 +25,6 @@ use Rattle.acceptance.specs.Adding.{multOf, addRow, addRows, Fine}
 mult-within : (w : ℕ) → Within 65535 (multOf w)
 unfolding up dn
 mult-within w = within-out 65535 (multOf w) (omega arith) (omega arith)
-
-read-single : {r : Row} → Read r → Single r
-read-single h = room-weaken (omega arith) (omega arith) h
 
 pub fine-small : {r : Row} → Fine 42 r → Small r
 fine-small h = room-weaken (omega arith) (omega arith) h
@@ -48,10 +45,10 @@ module _ (ws : List ℕ) (t : Sum) (r : Row) where
   fine-if k false f h = fine-weaken k (k + 1) (omega arith) f
 
   -- the goal's row, before any other
-  pub goal-fits : Room 0 0 (t .row) → Goal r → RowFits (t .row) (multOf (getD ws (t .used) 0)) r
+  pub goal-fits : Room 0 0 (t .row) → After r → RowFits (t .row) (multOf (getD ws (t .used) 0)) r
   goal-fits z h = row-fits (omega arith) (omega arith) (mult-within (getD ws (t .used) 0)) z h
 
-  pub goal-fine : (b : Bool) → Room 0 0 (t .row) → Goal r → Fine 0 (addRows ws t (rowIf b r) .row)
+  pub goal-fine : (b : Bool) → Room 0 0 (t .row) → After r → Fine 0 (addRows ws t (rowIf b r) .row)
   unfolding addRows
   goal-fine true z h = room-weaken (omega arith) (omega arith) (room-plus (mult-within (getD ws (t .used) 0)) z h)
   goal-fine false z h = room-weaken (omega arith) (omega arith) z

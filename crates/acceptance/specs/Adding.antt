@@ -25,4 +25,4 @@ addRows ws t (r ∷ rs) = addRows ws (addRow ws t r) rs
 
 -- every row times at most 65,535
 abbrev pub Fine : ℕ → Row → Type 0
-Fine k r = Room (65535 * 8000000 + k * 65535000) (65535 * 8001000002 + k * 65535065535) r
+Fine k r = Room (65535 * 8000000 + k * 65535000) (65535 * 8001000001 + k * 65535065535) r

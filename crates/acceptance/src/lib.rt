@@ -7,7 +7,7 @@ ghost use lib.ListN.{length, getD, take, drop};
 ghost use Rattle.rows.specs.Bounds.{Small, Read, noRow};
 ghost use Rattle.runs.specs.Runs.{has, rowIf, literalRows};
 ghost use Rattle.sums.specs.Sums.{constRow, combine};
-ghost use Rattle.sums.specs.Fits.{RowFits, Goal};
+ghost use Rattle.sums.specs.Fits.{RowFits, After};
 ghost use Rattle.acceptance.specs.Adding.{multOf, addRow, addRows, Fine};
 use rows::Row;
 
@@ -102,7 +102,7 @@ pub fn lemma_sum(
     at: usize,
 ) -> Row
     requires { ⌜ (np ≤ 14) × (n ≤ 14) × (at + length (rowIf goal q ++ (literalRows 0 (take np preds) set ++ take n rows)) ≤ length (now words)) ⌝ }
-    requires { ⌜ Goal q ⌝ }
+    requires { ⌜ After q ⌝ }
     requires { ⌜ ((i : ℕ) → Read (getD preds i noRow)) × ((i : ℕ) → Read (getD rows i noRow)) ⌝ }
     ensures { λ r. ⌜ (r ≡ combine (constRow (pos 0)) (map multOf (drop at (now (words .entry)))) (rowIf goal q ++ (literalRows 0 (take np preds) set ++ take n rows))) × Small r ⌝ }
 {

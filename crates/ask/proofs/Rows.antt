@@ -18,7 +18,7 @@ use Rattle.words.specs.Words.{word, MULT}
 use Rattle.rows.specs.declared.Row.{Row}
 use Rattle.rows.specs.declared.Range.{Range}
 use Rattle.rows.specs.Rows.{zeroRange}
-use Rattle.rows.specs.Bounds.{small, SmallRange, noRow}
+use Rattle.rows.specs.Bounds.{small, SmallRange, Read, noRow}
 use Rattle.grammar.specs.Programs.{Program}
 use Rattle.grammar.specs.Encoding.{concat}
 use Rattle.grammar.specs.WellFormed.{Each, WellFormed}
@@ -28,7 +28,6 @@ use Rattle.programs.proofs.Places.{stored-at}
 use Rattle.runs.specs.Runs.{actionOf, rowIf}
 use Rattle.runs.proofs.Sizes.{every-set, zeros-small}
 use Rattle.sums.specs.Sums.{addScaled, combine, constRow, afterwards}
-use Rattle.sums.specs.Fits.{Single}
 use Rattle.acceptance.specs.Adding.{multOf}
 use Rattle.lemmas.specs.Lemmas.{predicate, range, newRows, negatedGoal}
 use Rattle.lemmas.specs.LemmaGrammar.{goalAllowed, setsVariable, encodeMultiplier}
@@ -78,7 +77,7 @@ module _ (p : Program) (ok : WellFormed p) (s : ℕ) where
   abbrev row : ℕ → ℕ → Row
   row g i = goalRow (sets zeroRanges 0 (p .ranges)) (sets zeroRows 0 (p .predicates)) g i
 
-  pub negated-is : (g i : ℕ) → goalAllowed p s g i ≡ true → rowIf (not (eqb g 0)) (refuted g (afterwards (newRows p s) (row g i))) ≡ negatedGoal p s g i
+  pub negated-is : (g i : ℕ) → goalAllowed p s g i ≡ true → rowIf (not (eqb g 0)) (afterwards (newRows p s) (refuted g (row g i))) ≡ negatedGoal p s g i
   negated-is zero i e = refl
   negated-is (suc zero) i e = rw (predicate-at i (ltb-true i (length (p .predicates)) e)) refl
   negated-is (suc (suc zero)) i e = rw (predicate-at i (ltb-true i (length (p .predicates)) e)) refl
@@ -101,6 +100,6 @@ low-fits h = within-fits w64 (omega arith) (sum (literal {B = 0} {z = pos 0} tt 
 unit-small : (v : ℕ) (k : ℤ) → Within 1000 k → small 1000 (set (replicate 8 (pos 0)) v k)
 unit-small v k h = every-set (Within 1000) (pos 0) (replicate 8 (pos 0)) v k zeros-small h
 
-pub end-single : (g : Range) (low : Bool) (v : ℕ) → SmallRange g → Single (endRow g low v)
-end-single g true v h = record { coefs = unit-small v (pos 1) (literal tt tt); const = within-weaken (omega arith) (opposite (h .low)) }
-end-single g false v h = record { coefs = unit-small v (negsuc 0) (literal tt tt); const = within-weaken (omega arith) (h .high) }
+pub end-read : (g : Range) (low : Bool) (v : ℕ) → SmallRange g → Read (endRow g low v)
+end-read g true v h = record { coefs = unit-small v (pos 1) (literal tt tt); const = within-weaken (omega arith) (opposite (h .low)) }
+end-read g false v h = record { coefs = unit-small v (negsuc 0) (literal tt tt); const = within-weaken (omega arith) (h .high) }

@@ -114,7 +114,7 @@ module _ (ws : List ℕ) {g : Image} (held : Held ws g) (ls : List ℕ) (at : �
     pub rows-ready : ReadRows (x .rows)
     rows-ready = rw offers (guards-read (length (p .ranges)) (sourceRows p (l .source)) (source-rows-good p ok (l .source) .each))
 
-    module _ {row q : Row} (er : row ≡ goalRow (g .ranges) (g .pred) goal i) (eq : q ≡ refuted goal (afterwards (x .new) row)) where
+    module _ {row q : Row} (er : row ≡ goalRow (g .ranges) (g .pred) goal i) (eq : q ≡ afterwards (x .new) (refuted goal row)) where
       abbrev rows : List Row
       rows = rowIf (not (eqb goal 0)) q ++ (literalRows 0 (take (g .preds) (g .pred)) (payload s) ++ take (x .count) (x .rows))
 

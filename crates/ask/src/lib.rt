@@ -10,7 +10,7 @@ ghost use Rattle.ask.specs.declared.Asked.the-variants.{Accepted};
 ghost use Rattle.rows.specs.Bounds.{SmallRange, smallRanges, Read, noRow};
 ghost use Rattle.programs.specs.Calls.{read};
 ghost use Rattle.sums.specs.Sums.{afterwards};
-ghost use Rattle.sums.specs.Fits.{Single, Goal};
+ghost use Rattle.sums.specs.Fits.{After};
 ghost use Rattle.lemmas.specs.Lemmas.{largestOf};
 ghost use Rattle.lemmas.specs.Sources.{theProgram, Held, sourceOf};
 ghost use Rattle.ask.specs.Calls.{weighed, ask, TrueIn};
@@ -26,7 +26,7 @@ use words::Refusal;
 // The row that says that a variable is not below its low end, or not above its high end.
 fn end_row(range: Range, low: bool, v: usize) -> Row
     requires { ⌜ (v < 8) × SmallRange range ⌝ }
-    ensures { λ r. ⌜ (r ≡ endRow range low v) × Single r ⌝ }
+    ensures { λ r. ⌜ (r ≡ endRow range low v) × Read r ⌝ }
 {
     let mut coef = [0i64; 8];
     if low {
@@ -42,7 +42,7 @@ fn end_row(range: Range, low: bool, v: usize) -> Row
 // The row of a goal: a predicate's, or that of an end.
 fn goal_row(ranges: [Range; 8], preds: [Row; 14], goal: usize, index: usize) -> Row
     requires { ⌜ (goal ≤ 2 → index < 14) × (2 < goal → index < 8) × smallRanges ranges × ((i : ℕ) → Read (getD preds i noRow)) ⌝ }
-    ensures { λ r. ⌜ (r ≡ goalRow ranges preds goal index) × Single r ⌝ }
+    ensures { λ r. ⌜ (r ≡ goalRow ranges preds goal index) × Read r ⌝ }
 {
     if goal <= 2 {
         let row = preds[index];
@@ -54,14 +54,13 @@ fn goal_row(ranges: [Range; 8], preds: [Row; 14], goal: usize, index: usize) -> 
 
 // The negated goal afterwards; of goal 2 the predicate itself.
 fn refuter(goal: usize, row: Row, new: [Row; 8]) -> Row
-    requires { ⌜ Single row × ((i : ℕ) → Read (getD new i noRow)) ⌝ }
-    ensures { λ r. ⌜ (r ≡ refuted goal (afterwards new row)) × Goal r ⌝ }
+    requires { ⌜ Read row × ((i : ℕ) → Read (getD new i noRow)) ⌝ }
+    ensures { λ r. ⌜ (r ≡ afterwards new (refuted goal row)) × After r ⌝ }
 {
-    let after = sums::after(row, new);
     if goal == 2 {
-        after
+        sums::after(row, new)
     } else {
-        rows::negate(after)
+        sums::after(rows::negate(row), new)
     }
 }
 

@@ -179,24 +179,21 @@ module _ (p : Program) (ok : WellFormed p) where
           never-holds sum (in-ranges (p .ranges) s (inside .long) (omega (arith, inside .none-off))) (ltZ-true (largestValue sum (p .ranges)) (pos 0) e)
           (sum-holds (λ k. k) ms (qs ++ rest) s (eights-append qs rest long longs) (hold-append qs rest s h all))
 
-      -- goals 1, 3 and 4
-      holds-after : (g : Row) → Refuted (negated (afterwards (newRows p source) g) ∷ []) → Holds g after
-      holds-after g e =
+      -- a row whose row afterwards is refuted cannot hold afterwards
+      cannot-after : (g : Row) → Refuted (afterwards (newRows p source) g ∷ []) → Holds g after → ⊥
+      cannot-after g e h =
           let a = afterwards (newRows p source) g in
-          let long = negated-long a (after-long (newRows p source) g (eights-new source)) in
-          rw (value-after g) at (must-hold a s (λ h. cannot (negated a ∷ []) (long, tt) e (h, tt)))
+          let k : Holds a s = rw (value-after g) h in
+          cannot (a ∷ []) (after-long (newRows p source) g (eights-new source), tt) e (k, tt)
 
-      -- goal 2
-      fails-after : (g : Row) → Refuted (afterwards (newRows p source) g ∷ []) → holds g after ≡ false
-      fails-after g e =
-          let a = afterwards (newRows p source) g in
-          let long = after-long (newRows p source) g (eights-new source) in
-          rw (value-after g) at (fails a s (λ h. cannot (a ∷ []) (long, tt) e (h, tt)))
+      -- goals 1, 3 and 4
+      holds-after : (g : Row) → Refuted (afterwards (newRows p source) (negated g) ∷ []) → Holds g after
+      holds-after g e = must-hold g after (cannot-after (negated g) e)
 
       claimed : (g i : ℕ) → goalAllowed p source g i ≡ true → Refuted (negatedGoal p source g i) → Claim p g i after
       claimed zero i a e = cannot [] tt e tt
       claimed (suc zero) i a e = le-leZ (pos 0) (rowValue (predicate p i) after) (holds-after (predicate p i) e)
-      claimed (suc (suc zero)) i a e = fails-after (predicate p i) e
+      claimed (suc (suc zero)) i a e = fails (predicate p i) after (cannot-after (predicate p i) e)
       claimed (suc (suc (suc zero))) i a e = low-holds p i after (set-below source i a) (holds-after (aboveLow p i) e)
       claimed (suc (suc (suc (suc zero)))) i a e = high-holds p i after (set-below source i a) (holds-after (belowHigh p i) e)
       claimed (suc (suc (suc (suc (suc g))))) i a e = false-true a

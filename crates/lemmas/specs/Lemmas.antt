@@ -59,13 +59,13 @@ abbrev pub belowHigh : Program → ℕ → Row
 belowHigh p v = record { coef = set (replicate 8 (pos 0)) v (negsuc 0); constant = range p v .high }
 
 -- 0 the source cannot happen; 1 predicate index holds afterwards; 2 it fails afterwards; 3 variable index is not below its low end
--- afterwards; 4 not above its high end. What is negated of goal 2 is the predicate itself.
+-- afterwards; 4 not above its high end. The goal is negated and then put through the assignments; of goal 2 the negation is the predicate itself.
 abbrev pub negatedGoal : Program → ℕ → ℕ → ℕ → List Row
 negatedGoal p source zero i = []
-negatedGoal p source (suc zero) i = negated (afterwards (newRows p source) (predicate p i)) ∷ []
+negatedGoal p source (suc zero) i = afterwards (newRows p source) (negated (predicate p i)) ∷ []
 negatedGoal p source (suc (suc zero)) i = afterwards (newRows p source) (predicate p i) ∷ []
-negatedGoal p source (suc (suc (suc zero))) i = negated (afterwards (newRows p source) (aboveLow p i)) ∷ []
-negatedGoal p source (suc (suc (suc (suc g)))) i = negated (afterwards (newRows p source) (belowHigh p i)) ∷ []
+negatedGoal p source (suc (suc (suc zero))) i = afterwards (newRows p source) (negated (aboveLow p i)) ∷ []
+negatedGoal p source (suc (suc (suc (suc g)))) i = afterwards (newRows p source) (negated (belowHigh p i)) ∷ []
 
 -- One MULT each for: the negated goal, each premise by rising predicate, each row of the source.
 abbrev pub rowsOf : Program → Lemma → List Row

@@ -1,7 +1,6 @@
 use mathlib.Core.Path.{refl, _∙_}
 use native.Mathlib.Omega.{arith}
 use borrow.Author.Tests.{le-leb, lt-leb}
-use Rattle.rows.proofs.Laws.{room-weaken}
 use Rattle.ask.proofs.goal_row.Statement.{statement}
 use Rattle.ask.proofs.goal_row.Tie as tie
 
@@ -12,7 +11,7 @@ array-copy-out-row : tie.Need-array-copy-out-row
 array-copy-out-row c = c .before .pre .0 (c .if1 .taken)
 
 returns : tie.Need-returns
-returns c = (rw (le-leb _ 2 (c .before .if1 .taken)) refl, room-weaken (omega arith) (omega arith) (c .before .before .pre .3 (c .before .before .args .index)))
+returns c = (rw (le-leb _ 2 (c .before .if1 .taken)) refl, c .before .before .pre .3 (c .before .before .args .index))
 
 mul-range : tie.Need-mul-range
 mul-range c = omega (arith, c .before .pre .1 (c .if1 .left))
