@@ -1,5 +1,5 @@
 -- An accepted lemma is true of all whole numbers in the ranges. Assumes nothing.
-use mathlib.Core.Path.{_≡_, refl, sym, ap, _∙_, subst}
+use mathlib.Core.Path.{_≡_, refl, sym, ap, _∙_}
 use mathlib.Core.Bool.{Bool, true, false, cond}
 use mathlib.Core.List.{List, [], _∷_, _++_, map}
 use Prim.Native.Nat.{ℕ, zero, suc, _+_, _-_, _≤_, _<_}
@@ -16,14 +16,13 @@ use Rattle.rows.specs.Rows.{rowValue, Holds, negated, largestValue, InRanges, i
 use Rattle.rows.proofs.Laws.{negation}
 use Rattle.grammar.specs.Programs.{Assignment, Program}
 use Rattle.grammar.specs.WellFormed.{Each, RowOk, Rising, ActionOk, WellFormed}
-use Rattle.actions.specs.Results.{keepRows}
-use Rattle.actions.specs.Results.{assigned as replaced}
+use Rattle.actions.specs.Results.{keepRows, assigned}
 use Rattle.programs.proofs.Places.{noneAction}
-use Rattle.runs.specs.Runs.{allHold, holds, within, lowestOff, Inside, put, assigned, actionOf, has, rowIf, literalRows}
+use Rattle.runs.specs.Runs.{allHold, holds, within, lowestOff, Inside, newState, actionOf, has, rowIf, literalRows}
 use Rattle.runs.specs.Values.{padded}
-use Rattle.runs.proofs.Trying.{first-on, value-padded, put-padded}
-use Rattle.runs.proofs.Sizes.{every-each, unit-value, new-values}
-use Rattle.runs.proofs.Tried.{rising-below, length-padded}
+use Rattle.runs.proofs.Trying.{first-on, value-padded}
+use Rattle.runs.proofs.Sizes.{every-each, unit-value}
+use Rattle.runs.proofs.NewValues.{new-values}
 use Rattle.sums.specs.Sums.{combine, constRow, afterwards}
 use Rattle.sums.proofs.Laws.{Eights, Hold, after-value, after-long, sum-holds, never-holds}
 use Rattle.lemmas.specs.Lemmas.{Lemma, START, sourceRows, newRows, predicate, range, aboveLow, belowHigh, negatedGoal, accepted}
@@ -74,11 +73,11 @@ eights-set [] i r h k = tt
 eights-set (x ∷ rs) zero r h k = (k, h .1)
 eights-set (x ∷ rs) (suc i) r h k = (h .0, eights-set rs i r (h .1) k)
 
-eights-replaced : (vars v : ℕ) (rs : List Row) (ss : List Assignment) → Eights rs → Rising vars v ss → Eights (replaced rs ss)
-unfolding replaced
-eights-replaced vars v rs [] h k = h
-eights-replaced vars v rs (x ∷ ss) h k =
-    eights-replaced vars (suc (x .variable)) (set rs (x .variable) (x .row)) ss (eights-set rs (x .variable) (x .row) h (k .0 .row .eight)) (k .1)
+eights-assigned : (vars v : ℕ) (rs : List Row) (ss : List Assignment) → Eights rs → Rising vars v ss → Eights (assigned rs ss)
+unfolding assigned
+eights-assigned vars v rs [] h k = h
+eights-assigned vars v rs (x ∷ ss) h k =
+    eights-assigned vars (suc (x .variable)) (set rs (x .variable) (x .row)) ss (eights-set rs (x .variable) (x .row) h (k .0 .row .eight)) (k .1)
 
 eights-keep : Eights keepRows
 eights-keep = (refl, (refl, (refl, (refl, (refl, (refl, (refl, (refl, tt))))))))
@@ -133,7 +132,7 @@ module _ (p : Program) (ok : WellFormed p) where
       (record { guards = record { few = omega arith; each = tt }; few = omega arith; rising = tt }) (ok .actions .each)
 
   eights-new : (source : ℕ) → Eights (newRows p source)
-  eights-new source = eights-replaced vars 0 keepRows (actionOf p source .sets) eights-keep (action-ok source .rising)
+  eights-new source = eights-assigned vars 0 keepRows (actionOf p source .sets) eights-keep (action-ok source .rising)
 
   eights-source : (source : ℕ) → Eights (sourceRows p source)
   eights-source source =
@@ -146,19 +145,15 @@ module _ (p : Program) (ok : WellFormed p) where
 
   module _ (s : List ℤ) (inside : Inside p s) (source : ℕ) where
     abbrev after : List ℤ
-    after = assigned (actionOf p source) s
+    after = newState (actionOf p source) s
 
     -- at a state the row afterwards is worth what the row is worth at the state afterwards
     value-after : (g : Row) → rowValue (afterwards (newRows p source) g) s ≡ rowValue g after
     value-after g =
-        let ss = actionOf p source .sets in
-        let n = 8 - length s in
-        let fits : length s ≤ 8 = omega (arith, inside .long, ok .ranges .few) in
-        let known = subst (λ (m : ℕ). Each (λ x. x .variable < m) ss) (sym (inside .long)) (rising-below vars 0 ss (action-ok source .rising)) in
-        sym (value-padded (afterwards (newRows p source) g) s n)
+        sym (value-padded (afterwards (newRows p source) g) s (8 - length s))
         ∙ after-value (newRows p source) g (padded s) (eights-new source)
-        ∙ ap (rowValue g) (new-values (padded s) ss (length-padded s fits) ∙ put-padded ss s s n known)
-        ∙ value-padded g (put ss s s) n
+        ∙ ap (rowValue g) (new-values vars (actionOf p source .sets) (action-ok source .rising) s (inside .long) (ok .ranges .few))
+        ∙ value-padded g after (8 - length after)
 
     module _ (set : ℕ) (ms : List ℕ) (premises : allHold (literalRows 0 (p .predicates) set) s ≡ true) (enabled : happens p source s ≡ true) where
       abbrev rest : List Row

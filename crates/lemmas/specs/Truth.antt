@@ -11,7 +11,7 @@ use lib.IntN.{ℤ, pos}
 use lib.Signed.{_≤ℤ_}
 use lib.ListN.{getD}
 use Rattle.grammar.specs.Programs.{Program}
-use Rattle.runs.specs.Runs.{holds, allHold, Inside, assigned, actionOf, meets}
+use Rattle.runs.specs.Runs.{holds, allHold, Inside, newState, actionOf, meets}
 use Rattle.lemmas.specs.Lemmas.{Lemma, sourceRows, predicate, range}
 
 abbrev pub happens : Program → ℕ → List ℤ → Bool
@@ -27,4 +27,4 @@ Claim p (suc (suc (suc (suc g)))) i t = getD t i (pos 0) ≤ℤ range p i .high
 -- Of every state in the ranges that meets the premises and at which the source may happen, the goal is true of what the assignments give.
 abbrev pub True : Program → Lemma → Type 0
 True p l = (s : List ℤ) → Inside p s → meets (p .predicates) (l .premises) s ≡ true → happens p (l .source) s ≡ true
-    → Claim p (l .goal) (l .index) (assigned (actionOf p (l .source)) s)
+    → Claim p (l .goal) (l .index) (newState (actionOf p (l .source)) s)

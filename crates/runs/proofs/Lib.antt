@@ -2,6 +2,7 @@ pub mod Worked
 pub mod Loops
 pub mod Trying
 pub mod Sizes
+pub mod NewValues
 pub mod Tried
 pub mod Answers
 pub mod Steps

@@ -1,18 +1,18 @@
 -- The numbers of an accepted program are small enough to compute with, and its parts stand in the arrays of its image.
-use mathlib.Core.Path.{_≡_, refl, sym, ap, _∙_}
-use mathlib.Core.List.{List, [], _∷_, _++_, map}
-use Prim.Native.Nat.{ℕ, zero, suc, _+_, _-_, _*_, _≤_, _<_}
+use mathlib.Core.Path.{_≡_, refl, ap, _∙_}
+use mathlib.Core.List.{List, [], _∷_, _++_}
+use Prim.Native.Nat.{ℕ, zero, suc, _+_, _≤_, _<_}
 use native.Mathlib.Omega.{arith}
 use native.Mathlib.Nat.{not-suc-le-zero, le-of-suc-le-suc}
 use native.Mathlib.Decide.{ℕ-discrete, decLt}
 use lib.IntN.{ℤ, pos, negsuc, _*ℤ_}
 use lib.ListN.{length, getD, set, take, drop, replicate, length-replicate}
-use lib.Seq.{sets, sets-eq, take-append-seam, getD-set-same, getD-set-other, set-out, ext-getD}
+use lib.Seq.{sets, sets-eq, take-append-seam, getD-set-same, getD-set-other, set-out}
 use Rattle.integers.proofs.Int.{var, num, _⊕_, _⊗_, equal}
 use Rattle.integers.proofs.Laws.{Within, literal, zero-within, le-trans}
 use Rattle.rows.specs.declared.Row.{Row}
 use Rattle.rows.specs.declared.Range.{Range}
-use Rattle.rows.specs.Rows.{dot, rowValue, zeroRange}
+use Rattle.rows.specs.Rows.{dot, zeroRange}
 use Rattle.rows.specs.Bounds.{small, maxState, Small, SmallRange, smallRanges, Read, noRow}
 use Rattle.rows.proofs.Laws.{room-weaken}
 use Rattle.grammar.specs.Programs.{Assignment}
@@ -20,7 +20,7 @@ use Rattle.grammar.specs.WellFormed.{Between, Each, RangeOk, RowOk, Rising}
 use Rattle.reader.specs.Results.{zeroRow, zeroRows}
 use Rattle.actions.specs.Results.{keepRow, keepRows, assigned}
 use Rattle.programs.specs.Images.{zeroRanges}
-use Rattle.runs.specs.Runs.{within, lowestOff, put}
+use Rattle.runs.specs.Runs.{within, lowestOff}
 use Rattle.runs.proofs.Trying.{first-on, within-small}
 
 -- ---- something holds at every place of a list, past its end too
@@ -126,17 +126,7 @@ state-small (g ∷ gs) [] n p l h k = absurd (omega arith)
 state-small (g ∷ gs) (x ∷ s) n p l h zero = within-small (range-small (p .0)) (first-on (within g x) h .0)
 state-small (g ∷ gs) (x ∷ s) n p l h (suc k) = state-small gs s n (p .1) (omega arith) (first-on (within g x) h .1) k
 
--- ---- each variable's new value
-map-set : (f : Row → ℤ) (rs : List Row) (i : ℕ) (r : Row) → map f (set rs i r) ≡ set (map f rs) i (f r)
-map-set f [] i r = refl
-map-set f (x ∷ rs) zero r = refl
-map-set f (x ∷ rs) (suc i) r = ap (λ (t : List ℤ). f x ∷ t) (map-set f rs i r)
-
-map-assigned : (x : List ℤ) (rs : List Row) (ss : List Assignment) → map (λ r. rowValue r x) (assigned rs ss) ≡ put ss x (map (λ r. rowValue r x) rs)
-unfolding assigned put
-map-assigned x rs [] = refl
-map-assigned x rs (s ∷ ss) = map-assigned x (set rs (s .variable) (s .row)) ss ∙ ap (put ss x) (map-set (λ r. rowValue r x) rs (s .variable) (s .row))
-
+-- ---- a row of one coefficient
 unit-zeros : (n : ℕ) (x : List ℤ) → dot (replicate n (pos 0)) x ≡ pos 0
 unfolding dot
 unit-zeros zero x = refl
@@ -152,23 +142,3 @@ unit-value (suc n) (suc v) k [] h = equal (num 0) (var k ⊗ num 0) (omega arith
 unit-value (suc n) (suc v) k (y ∷ x) h =
     let d = getD x v (pos 0) in
     rw (unit-value n v k x (le-of-suc-le-suc h)) (equal (num 0 ⊗ var y ⊕ var k ⊗ var d) (var k ⊗ var d) (omega arith))
-
-keep-value : (v : ℕ) (x : List ℤ) → v < 8 → rowValue (keepRow v) x ≡ getD x v (pos 0)
-keep-value v x h = rw (unit-value 8 v (pos 1) x h) (equal (num 1 ⊗ var (getD x v (pos 0)) ⊕ num 0) (var (getD x v (pos 0))) (omega arith))
-
-at-keep : (v : ℕ) (x : List ℤ) → v < 8 → getD (map (λ r. rowValue r x) keepRows) v (pos 0) ≡ rowValue (keepRow v) x
-at-keep zero x h = refl
-at-keep (suc zero) x h = refl
-at-keep (suc (suc zero)) x h = refl
-at-keep (suc (suc (suc zero))) x h = refl
-at-keep (suc (suc (suc (suc zero)))) x h = refl
-at-keep (suc (suc (suc (suc (suc zero))))) x h = refl
-at-keep (suc (suc (suc (suc (suc (suc zero)))))) x h = refl
-at-keep (suc (suc (suc (suc (suc (suc (suc zero))))))) x h = refl
-at-keep (suc (suc (suc (suc (suc (suc (suc (suc v)))))))) x h = absurd (omega arith)
-
-keeps-values : (x : List ℤ) → length x ≡ 8 → map (λ r. rowValue r x) keepRows ≡ x
-keeps-values x l = ext-getD (pos 0) (map (λ r. rowValue r x) keepRows) x (sym l) (λ v h. at-keep v x h ∙ keep-value v x h)
-
-pub new-values : (x : List ℤ) (ss : List Assignment) → length x ≡ 8 → map (λ r. rowValue r x) (assigned keepRows ss) ≡ put ss x x
-new-values x ss l = map-assigned x keepRows ss ∙ ap (put ss x) (keeps-values x l)

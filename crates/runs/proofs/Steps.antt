@@ -14,9 +14,9 @@ use Rattle.grammar.specs.Reading.{got}
 use Rattle.grammar.specs.Programs.{Program}
 use Rattle.programs.specs.Calls.{read}
 use Rattle.runs.specs.declared.Stepped.the-variants.{RunsOff}
-use Rattle.runs.specs.Runs.{Outcome, Finished, Inside, within, lowestOff, step, landed, enabled, assigned, actionOf, run}
+use Rattle.runs.specs.Runs.{Outcome, Finished, Inside, within, lowestOff, step, landed, enabled, newValue, newState, actionOf, run}
 use Rattle.runs.proofs.Answers.{on-range}
-use Rattle.runs.proofs.Trying.{put-length}
+use Rattle.runs.proofs.NewValues.{values-length}
 use Rattle.runs.specs.Calls.{Stepping, outcome, stepCall}
 
 -- t is left by trying action k on s: by a move, or because the action is not enabled
@@ -74,9 +74,9 @@ moved-on gs true u t e = go (ltb (lowestOff gs u) (length gs)) refl e
 pub inside-left : (p : Program) (k : ℕ) {s t : List ℤ} → Inside p s → Leaves p k s t → Inside p t
 inside-left p k {s} {t} h g = ⊎-elim
     (λ e.
-    let (same, on) = moved-on (p .ranges) (enabled (actionOf p k) s) (assigned (actionOf p k) s) t e in
-    let most = lowest-most (p .ranges) (assigned (actionOf p k) s) in
-    let l = put-length (actionOf p k .sets) s s in
+    let (same, on) = moved-on (p .ranges) (enabled (actionOf p k) s) (newState (actionOf p k) s) t e in
+    let most = lowest-most (p .ranges) (newState (actionOf p k) s) in
+    let l = values-length (newValue (actionOf p k .sets) s) 0 (length s) in
     rw (← same) (record { long = l ∙ h .long; none-off = omega arith }))
     (λ e. rw (e .1) at h) g
 

@@ -1,14 +1,14 @@
 -- Values on their ranges are small, and rows at a state with zeros behind it.
-use mathlib.Core.Path.{_≡_, refl, sym, ap, _∙_}
+use mathlib.Core.Path.{_≡_, refl, ap}
 use mathlib.Core.Bool.{Bool, true, false, cond}
 use mathlib.Core.List.{List, [], _∷_, _++_}
-use Prim.Native.Nat.{ℕ, zero, suc, _+_, _-_, _≤_, _<_}
+use Prim.Native.Nat.{ℕ, zero, suc, _≤_, _<_}
 use native.Mathlib.Omega.{arith}
 use native.Mathlib.Nat.{not-suc-le-zero, le-of-suc-le-suc}
 use lib.IntN.{ℤ, pos, _+ℤ_, _*ℤ_}
 use lib.Signed.{leZ}
-use lib.ListN.{length, getD, set, take, replicate, length-set}
-use lib.Seq.{getD-take, length-take-le, set-append-left}
+use lib.ListN.{length, getD, take, replicate}
+use lib.Seq.{getD-take, length-take-le}
 use mir.Syntax.{w32}
 use mir.Val.{SFits}
 use Rattle.integers.proofs.Int.{var, num, _⊕_, _⊗_, equal}
@@ -18,9 +18,7 @@ use Rattle.rows.specs.declared.Row.{Row}
 use Rattle.rows.specs.declared.Range.{Range}
 use Rattle.rows.specs.Rows.{dot, rowValue, zeroRange}
 use Rattle.rows.specs.Bounds.{small, maxState, SmallRange, smallRanges}
-use Rattle.grammar.specs.Programs.{Assignment}
-use Rattle.grammar.specs.WellFormed.{Each}
-use Rattle.runs.specs.Runs.{within, lowestOff, allHold, put}
+use Rattle.runs.specs.Runs.{within, lowestOff, allHold}
 
 -- ---- values on their ranges
 pub first-on : (b : Bool) {n m : ℕ} → suc n ≤ cond b (suc m) 0 → (b ≡ true) × (n ≤ m)
@@ -69,21 +67,3 @@ pub all-padded : (rs : List Row) (xs : List ℤ) (n : ℕ) → allHold rs (xs ++
 unfolding allHold
 all-padded [] xs n = refl
 all-padded (r ∷ rs) xs n = rw (value-padded r xs n, all-padded rs xs n) refl
-
-each-length : {n m : ℕ} (ss : List Assignment) → n ≡ m → Each (λ x. x .variable < n) ss → Each (λ x. x .variable < m) ss
-each-length [] e p = tt
-each-length (x ∷ ss) e p = (rw e at (p .0), each-length ss e (p .1))
-
--- ---- assignments on the padded state: zeros stay behind
-pub put-padded : (ss : List Assignment) (old acc : List ℤ) (n : ℕ) → Each (λ x. x .variable < length acc) ss → put ss (old ++ replicate n (pos 0)) (acc ++ replicate n (pos 0)) ≡ put ss old acc ++ replicate n (pos 0)
-unfolding put
-put-padded [] old acc n p = refl
-put-padded (x ∷ ss) old acc n p =
-    let v = rowValue (x .row) old in
-    let q = each-length ss (sym (length-set acc (x .variable) v)) (p .1) in
-    rw (value-padded (x .row) old n, set-append-left acc (replicate n (pos 0)) (x .variable) v (p .0)) (put-padded ss old (set acc (x .variable) v) n q)
-
-pub put-length : (ss : List Assignment) (old acc : List ℤ) → length (put ss old acc) ≡ length acc
-unfolding put
-put-length [] old acc = refl
-put-length (x ∷ ss) old acc = put-length ss old (set acc (x .variable) (rowValue (x .row) old)) ∙ length-set acc (x .variable) (rowValue (x .row) old)

@@ -9,7 +9,7 @@ use Rattle.rows.specs.declared.Row.{Row}
 use Rattle.rows.specs.declared.Range.{Range}
 use Rattle.rows.specs.Rows.{dot}
 use Rattle.grammar.specs.Programs.{Program}
-use Rattle.runs.specs.Runs.{Start, allHold, lowestOff, put, run, Safe, RanOff}
+use Rattle.runs.specs.Runs.{Start, allHold, lowestOff, newValue, valuesFrom, run, Safe, RanOff}
 
 -- a row of the first two variables
 row2 : ℤ → ℤ → ℤ → Row
@@ -71,7 +71,7 @@ unfolding incident level row2 lowestOff allHold dot
 incident-starts = record { inside = record { long = refl; none-off = refl }; meets = refl }
 
 runs-off : run incident (0 ∷ []) (pos 5 ∷ []) .ending ≡ RanOff
-unfolding incident level row2 lowestOff allHold put run dot
+unfolding incident level row2 lowestOff allHold newValue valuesFrom run dot
 runs-off = refl
 
 pub incident-unsafe : Safe incident → ⊥

@@ -4,7 +4,8 @@
 -- within, lowestOff — a value is on its range; the lowest variable whose value is not
 -- Inside, Start     — a state in all ranges; a start state
 -- enabled           — an action may be taken
--- put, assigned     — the values that assignments give, from the old ones and at once
+-- newValue          — the value that assignments give a variable, from the old ones
+-- valuesFrom, newState — the values of some variables; the state after an action
 -- Outcome, landed, actionOf, step — what trying an action does
 -- has, rowIf, literalRows — the rows of a set's literals
 -- meets, someMet, forbidden — a state meets all literals of a set; of some combination
@@ -13,11 +14,11 @@
 use mathlib.Core.Path.{_≡_}
 use mathlib.Core.Bool.{Bool, true, false, cond, _&&_, _||_}
 use mathlib.Core.List.{List, [], _∷_, _++_}
-use Prim.Native.Nat.{ℕ, suc, _+_, _/_, _%_, _^_, _<_}
+use Prim.Native.Nat.{ℕ, zero, suc, _+_, _/_, _%_, _^_, _<_}
 use lib.Dec.{eqb, ltb}
 use lib.IntN.{ℤ, pos}
 use lib.Signed.{leZ}
-use lib.ListN.{length, getD, set}
+use lib.ListN.{length, getD}
 use Rattle.words.specs.declared.Literals.{Literals}
 use Rattle.rows.specs.declared.Row.{Row}
 use Rattle.rows.specs.declared.Range.{Range}
@@ -55,13 +56,18 @@ pub record Start (p : Program) (s : List ℤ) : Type 0 where
 abbrev pub enabled : Action → List ℤ → Bool
 enabled a s = allHold (a .guards) s
 
--- Its assignments use the old values and happen at once; other variables keep theirs.
-unfoldable pub put : List Assignment → List ℤ → List ℤ → List ℤ
-put [] old s = s
-put (x ∷ xs) old s = put xs old (set s (x .variable) (rowValue (x .row) old))
+-- Its assignments use the old values and happen at once; other variables keep theirs. The new value of variable v:
+unfoldable pub newValue : List Assignment → List ℤ → ℕ → ℤ
+newValue [] old v = getD old v (pos 0)
+newValue (x ∷ xs) old v = cond (eqb (x .variable) v) (rowValue (x .row) old) (newValue xs old v)
 
-abbrev pub assigned : Action → List ℤ → List ℤ
-assigned a s = put (a .sets) s s
+-- the values of n variables from v on
+unfoldable pub valuesFrom : (ℕ → ℤ) → ℕ → ℕ → List ℤ
+valuesFrom f v zero = []
+valuesFrom f v (suc n) = f v ∷ valuesFrom f (suc v) n
+
+abbrev pub newState : Action → List ℤ → List ℤ
+newState a s = valuesFrom (newValue (a .sets) s) 0 (length s)
 
 -- If an exact new value is off its range the action runs off, with the lowest such variable. One that isn't enabled leaves the state.
 pub data Outcome : Type 0 where
@@ -76,7 +82,7 @@ abbrev pub actionOf : Program → ℕ → Action
 actionOf p k = getD (p .actions) k (record { guards = []; sets = [] })
 
 abbrev pub step : Program → ℕ → List ℤ → Outcome
-step p k s = cond (enabled (actionOf p k) s) (landed (p .ranges) (assigned (actionOf p k) s)) NotEnabled
+step p k s = cond (enabled (actionOf p k) s) (landed (p .ranges) (newState (actionOf p k) s)) NotEnabled
 
 -- A literal is a predicate or its negation. The literals of a set, by rising predicate from i on.
 abbrev pub has : ℕ → ℕ → Bool

@@ -11,7 +11,8 @@ use Rattle.integers.proofs.Tests.{le-leZ}
 use Rattle.grammar.specs.Programs.{Assignment, Program}
 use Rattle.grammar.specs.WellFormed.{Each, WellFormed}
 use Rattle.programs.proofs.Places.{noneAction}
-use Rattle.runs.specs.Runs.{lowestOff, Inside, Start, enabled, put, assigned, Outcome, Moved, NotEnabled, RunsOff, landed, actionOf, step, forbidden, Run, onward, run, SafeRun, Safe}
+use Rattle.runs.specs.Runs.{lowestOff, Inside, Start, enabled, newState, Outcome, Moved, NotEnabled, RunsOff, landed, actionOf, step, forbidden, Run, onward, run, SafeRun, Safe}
+use Rattle.runs.proofs.NewValues.{none-set}
 use Rattle.lemmas.specs.Lemmas.{Lemma, START, range}
 use Rattle.lemmas.specs.LemmaGrammar.{LemmaOk}
 use Rattle.lemmas.specs.Truth.{happens}
@@ -51,9 +52,8 @@ Fine p g NotEnabled = Unit {0}
 Fine p g (RunsOff v) = ⊥
 
 module _ (p : Program) (ok : WellFormed p) where
-  start-keeps : (s : List ℤ) → assigned (actionOf p START) s ≡ s
-  unfolding put
-  start-keeps s = rw (List·getD-eq-default (p .actions) noneAction {n = START} (omega (arith, ok .actions .few))) refl
+  start-keeps : (s : List ℤ) → newState (actionOf p START) s ≡ s
+  start-keeps s = rw (List·getD-eq-default (p .actions) noneAction {n = START} (omega (arith, ok .actions .few))) (none-set s)
 
   action-happens : (s : List ℤ) (j : ℕ) → j < length (p .actions) → enabled (actionOf p j) s ≡ true → happens p j s ≡ true
   action-happens s j l h = rw (ne-eqb j START (λ e. omega (arith, ok .actions .few))) h
@@ -72,7 +72,7 @@ module _ (p : Program) (ok : WellFormed p) where
 
       module _ (s : List ℤ) (h : Known p g s) (j : ℕ) (l : j < length (p .actions)) where
         abbrev after : List ℤ
-        after = assigned (actionOf p j) s
+        after = newState (actionOf p j) s
 
         abbrev here : List Literal
         here = literalsAt g (h .node)
@@ -93,7 +93,7 @@ module _ (p : Program) (ok : WellFormed p) where
               let n = next p g after f e (successor-true p ok s (h .inside) j may here (h .described) ls good) (faithful .edges (h .node) j (h .stored) l) in
               let shown = ends-shown p ls g none (h .node) (h .stored) j l (n .linked) in
               record {
-                inside = stays-inside p s (h .inside) (actionOf p j .sets) (each-on (actionOf p j .sets) shown);
+                inside = stays-inside p s (h .inside) (actionOf p j) (each-on (actionOf p j .sets) shown);
                 node = n .node;
                 stored = n .stored;
                 described = n .described;

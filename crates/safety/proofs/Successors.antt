@@ -12,7 +12,7 @@ use borrow.Author.Tests.{eqb-true}
 use Rattle.integers.proofs.Tests.{and-true, or-true, false-true}
 use Rattle.grammar.specs.Programs.{Program}
 use Rattle.grammar.specs.WellFormed.{Each, WellFormed}
-use Rattle.runs.specs.Runs.{Inside, assigned, actionOf}
+use Rattle.runs.specs.Runs.{Inside, newState, actionOf}
 use Rattle.lemmas.specs.Lemmas.{Lemma, predicate, accepted}
 use Rattle.lemmas.specs.LemmaGrammar.{LemmaOk}
 use Rattle.lemmas.specs.Truth.{happens, Claim}
@@ -54,7 +54,7 @@ module _ (p : Program) (t : List ℤ) where
 -- ---- at a state in the ranges where the source may happen, and the literals are true
 module _ (p : Program) (ok : WellFormed p) (s : List ℤ) (inside : Inside p s) (source : ℕ) (may : happens p source s ≡ true) (exp : List Literal) (true-there : Each (TrueAt p s) exp) where
   abbrev after : List ℤ
-  after = assigned (actionOf p source) s
+  after = newState (actionOf p source) s
 
   lemma-claims : (l : Lemma) → LemmaOk p l → (goal index : ℕ) → lemmaApplies p source exp goal index l ≡ true → Claim p goal index after
   lemma-claims l good goal index e =
