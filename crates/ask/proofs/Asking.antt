@@ -9,7 +9,7 @@ use lib.IntN.{ℤ, pos}
 use lib.Signed.{ltZ}
 use lib.ListN.{length, getD, drop, replicate}
 use lib.Seq.{sets}
-use borrow.Author.Tests.{lt-ltb, le-ltb}
+use borrow.Author.Tests.{le-leb, lt-leb}
 use Rattle.words.specs.declared.Refusal.{Refusal}
 use Rattle.words.specs.declared.Refusal.the-variants.{Absent}
 use Rattle.rows.specs.declared.Exact.the-variants.{Value, Off}
@@ -129,7 +129,7 @@ module _ (ws : List ℕ) (p : Program) {us : List ℕ} {i : ℕ} (q : read ws �
 
   module _ (l : Lemmas-read) where
     pub no-lemma : y .count ≤ k → Answers ws lemmas k (Refused (Absent k))
-    no-lemma h = (rw (q, l .is, le-ltb k (length (l .list)) (omega (arith, l .counted))) refl, refused-not-accepted)
+    no-lemma h = (rw (q, l .is, le-leb (length (l .list)) k (omega (arith, l .counted))) refl, refused-not-accepted)
 
     pub good : Few 512 (LemmaOk p) (l .list)
     good = lemmas-accepted p ok lemmas (l .list) (l .rest) (l .index) (l .is) .good
@@ -169,6 +169,6 @@ module _ (ws : List ℕ) (p : Program) {us : List ℕ} {i : ℕ} (q : read ws �
       pub answered : {r : Asked} → r ≡ weighed k (exact (largestOf p (theLemma p lemmas place))) → Answers ws lemmas k r
       answered {r} a =
           let b : r ≡ weighed k (exact (largestOf p (getD (l .list) k noLemma))) = rw lemma-is at a in (
-            b ∙ rw (q, l .is, lt-ltb k (length (l .list)) known) refl,
+            b ∙ rw (q, l .is, lt-leb (length (l .list)) k known) refl,
             λ c. rw (q, l .is) (accepted-true p ok (getD (l .list) k noLemma) (each-lemma p (l .list) k (good .each) known) (weighed-accepted k (largestOf p (getD (l .list) k noLemma)) (sym b ∙ c))),
           )

@@ -7,7 +7,7 @@
 use mathlib.Core.Bool.{cond}
 use mathlib.Core.List.{List, []}
 use Prim.Native.Nat.{ℕ}
-use lib.Dec.{ltb}
+use lib.Dec.{leb}
 use lib.IntN.{pos}
 use lib.Signed.{ltZ}
 use lib.ListN.{length, getD}
@@ -33,7 +33,7 @@ weighed k (Value z) = cond (ltZ z (pos 0)) Accepted NotAccepted
 weighed k Off = Refused (Sum k)
 
 abbrev pub askList : Program → Read (List Lemma) → ℕ → Asked
-askList p (got ls ws i) k = cond (ltb k (length ls)) (weighed k (exact (largestOf p (getD ls k noLemma)))) (Refused (Absent k))
+askList p (got ls ws i) k = cond (leb (length ls) k) (Refused (Absent k)) (weighed k (exact (largestOf p (getD ls k noLemma))))
 askList p (refused r) k = Refused r
 
 abbrev pub askProgram : Read Program → List ℕ → ℕ → Asked

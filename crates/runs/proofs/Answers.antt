@@ -7,7 +7,7 @@ use native.Mathlib.Omega.{arith}
 use lib.IntN.{ℤ, pos}
 use lib.ListN.{length, getD, take, drop, replicate}
 use lib.Seq.{sets, take-at}
-use borrow.Author.Tests.{lt-ltb, le-ltb, eq-eqb, ne-eqb}
+use borrow.Author.Tests.{lt-ltb, le-ltb, le-leb, lt-leb, eq-eqb, ne-eqb}
 use Rattle.words.specs.declared.Refusal.{Refusal}
 use Rattle.words.specs.declared.Refusal.the-variants.{Absent, Length, State}
 use Rattle.rows.specs.Rows.{zeroRange}
@@ -62,22 +62,22 @@ module _ (ws : List ℕ) (p : Program) {us : List ℕ} {i : ℕ} (q : read ws �
   few = accepted ws p us i q .good .ranges .few
 
   absent : length (p .actions) ≤ k → stay (Refused (Absent k)) s ≡ stepCall ws k s
-  absent h = rw (q, le-ltb k (length (p .actions)) h) refl
+  absent h = rw (q, le-leb (length (p .actions)) k h) refl
 
   module _ (known : k < length (p .actions)) where
     wrong-length : (length s ≡ length (p .ranges) → ⊥) → stay (Refused (Length (length s))) s ≡ stepCall ws k s
-    wrong-length h = rw (q, lt-ltb k (length (p .actions)) known, ne-eqb (length s) (length (p .ranges)) h) refl
+    wrong-length h = rw (q, lt-leb (length (p .actions)) k known, ne-eqb (length s) (length (p .ranges)) h) refl
 
     module _ (l : length s ≡ length (p .ranges)) where
       same-off : lowestOff (take (length (p .ranges)) (sets zeroRanges 0 (p .ranges))) (take (length (p .ranges)) (padded s)) ≡ lowestOff (p .ranges) s
       same-off = rw (front-stored 8 zeroRange (p .ranges) few, take-at s (replicate (8 - length s) (pos 0)) (length (p .ranges)) l) refl
 
       off-range : lowestOff (p .ranges) s < length (p .ranges) → stay (Refused (State (lowestOff (p .ranges) s))) s ≡ stepCall ws k s
-      off-range h = rw (q, lt-ltb k (length (p .actions)) known, eq-eqb (length s) (length (p .ranges)) l, lt-ltb (lowestOff (p .ranges) s) (length (p .ranges)) h) refl
+      off-range h = rw (q, lt-leb (length (p .actions)) k known, eq-eqb (length s) (length (p .ranges)) l, lt-ltb (lowestOff (p .ranges) s) (length (p .ranges)) h) refl
 
       module _ (on : length (p .ranges) ≤ lowestOff (p .ranges) s) where
         pub on-range : outcome (step p k s) s ≡ stepCall ws k s
-        on-range = rw (q, lt-ltb k (length (p .actions)) known, eq-eqb (length s) (length (p .ranges)) l, le-ltb (lowestOff (p .ranges) s) (length (p .ranges)) on) refl
+        on-range = rw (q, lt-leb (length (p .actions)) k known, eq-eqb (length s) (length (p .ranges)) l, le-ltb (lowestOff (p .ranges) s) (length (p .ranges)) on) refl
 
         abbrev place : ℕ
         place = getD (sets (replicate 16 0) 0 (places encodeAction (firstAction p) (p .actions))) k 0

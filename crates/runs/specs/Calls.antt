@@ -5,10 +5,10 @@
 -- outcome   — what trying the action does
 -- stepped   — the answer on a program that was read, or the refusal; refusals in the order 2 to 4, 8, 9, 10
 -- stepCall  — Step
-use mathlib.Core.Bool.{cond}
+use mathlib.Core.Bool.{cond, not}
 use mathlib.Core.List.{List}
 use Prim.Native.Nat.{ℕ}
-use lib.Dec.{eqb, ltb}
+use lib.Dec.{eqb, ltb, leb}
 use lib.IntN.{ℤ}
 use lib.ListN.{length}
 use Rattle.words.specs.declared.Refusal.the-variants.{Absent, Length, State}
@@ -32,14 +32,14 @@ outcome (Outcome.Moved t) s = record { answer = Moved; state = t }
 outcome Outcome.NotEnabled s = stay NotEnabled s
 outcome (Outcome.RunsOff v) s = stay (RunsOff v) s
 
+-- in this order: no such action; a state of another length; a value off its range
 abbrev pub stepped : Read Program → ℕ → List ℤ → Stepping
 stepped (refused r) k s = stay (Refused r) s
 stepped (got p ws i) k s =
-    cond (ltb k (length (p .actions)))
-    (cond (eqb (length s) (length (p .ranges)))
-    (cond (ltb (lowestOff (p .ranges) s) (length (p .ranges))) (stay (Refused (State (lowestOff (p .ranges) s))) s) (outcome (step p k s) s))
-    (stay (Refused (Length (length s))) s))
-    (stay (Refused (Absent k)) s)
+    cond (leb (length (p .actions)) k) (stay (Refused (Absent k)) s)
+    (cond (not (eqb (length s) (length (p .ranges)))) (stay (Refused (Length (length s))) s)
+    (cond (ltb (lowestOff (p .ranges) s) (length (p .ranges))) (stay (Refused (State (lowestOff (p .ranges) s))) s)
+    (outcome (step p k s) s)))
 
 abbrev pub stepCall : List ℕ → ℕ → List ℤ → Stepping
 stepCall ws k s = stepped (read ws) k s

@@ -2,7 +2,7 @@
 use mathlib.Core.Path.{_≡_, refl}
 use mathlib.Core.List.{List, [], _∷_, map}
 use Prim.Native.Nat.{ℕ, _<_}
-use borrow.Author.Tests.{lt-ltb}
+use borrow.Author.Tests.{lt-leb}
 use lib.IntN.{ℤ, pos, zero-*ℤ}
 use lib.ListN.{length, getD}
 use Rattle.rows.specs.declared.Row.{Row}
@@ -54,4 +54,4 @@ largest-zero p l z =
 
 pub zeros-not-accepted : (ws lemmas : List ℕ) (k : ℕ) (p : Program) (ls : List Lemma) {us vs : List ℕ} {i j : ℕ}
     → read ws ≡ got p us i → readLemmas p lemmas ≡ got ls vs j → k < length ls → Zeros (getD ls k noLemma .multipliers) → ask ws lemmas k ≡ NotAccepted
-zeros-not-accepted ws lemmas k p ls e f below z = rw (e, f, lt-ltb k (length ls) below, largest-zero p (getD ls k noLemma) z)
+zeros-not-accepted ws lemmas k p ls e f below z = rw (e, f, lt-leb (length ls) k below, largest-zero p (getD ls k noLemma) z)
