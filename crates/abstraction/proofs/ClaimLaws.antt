@@ -3,7 +3,7 @@ use mathlib.Core.Path.{_≡_, refl, sym, subst}
 use mathlib.Core.Bool.{Bool, true, false, _&&_}
 use mathlib.Core.Logic.{_⊎_, inl, inr, ⊎-elim, _↔_}
 use mathlib.Core.List.{List, [], _∷_, map, List·Memᴰ, List·Memᴰ·head, List·Memᴰ·tail, List·Memᴰ·not-nil, List·Memᴰ·cases-cons}
-use Prim.Native.Nat.{ℕ, zero, suc, _<_}
+use Prim.Native.Nat.{ℕ, _<_}
 use native.Mathlib.Omega.{arith}
 use lib.Dec.{eqb}
 use lib.ListN.{length}
@@ -12,11 +12,11 @@ use Rattle.integers.proofs.Tests.{and-true}
 use Rattle.grammar.specs.Programs.{Program}
 use Rattle.grammar.specs.WellFormed.{Each, WellFormed}
 use Rattle.runs.specs.Runs.{has, actionOf}
-use Rattle.lemmas.specs.Lemmas.{Lemma, accepted}
+use Rattle.lemmas.specs.Lemmas.{Goal, CannotHappen, HoldsAfter, FailsAfter, NotBelow, NotAbove, goalNumber, Lemma, accepted}
 use Rattle.lemmas.specs.LemmaGrammar.{setsVariable, goalAllowed, LemmaOk}
-use Rattle.lemmas.proofs.LemmaLaws.{sets-known, action-rising}
+use Rattle.lemmas.proofs.LemmaLaws.{same-goal, sets-known, action-rising}
 use Rattle.sets.specs.Sets.{bitOf}
-use Rattle.gather.specs.Gathering.{Claim, placeOf, Goal, cannot, holds, fails, low-end, high-end, Sound, entryOf, gathered, Some}
+use Rattle.gather.specs.Gathering.{Claim, placeOf, Placed, cannot, holds, fails, low-end, high-end, Sound, entryOf, gathered, Some}
 use Rattle.gather.proofs.Shown.{never, Shows, shown-by}
 use Rattle.integers.proofs.Tests.{or-cases}
 use Rattle.abstraction.specs.Abstraction.{literalsIn, allAmong, lemmaApplies, applies}
@@ -47,13 +47,12 @@ module _ (p : Program) where
   set-lt : WellFormed p → (s v : ℕ) → setsVariable (actionOf p s .sets) v ≡ true → v < 8
   set-lt ok s v e = omega (arith, sets-known (length (p .ranges)) 0 (actionOf p s .sets) v (action-rising (length (p .ranges)) (p .actions) s (ok .actions .each)) e, ok .ranges .few)
 
-  goal-known : WellFormed p → (s g i : ℕ) → goalAllowed p s g i ≡ true → Goal g i
-  goal-known ok s zero i e = rw (eqb-true i 0 e) cannot
-  goal-known ok s (suc zero) i e = holds {i = i} (omega (arith, ltb-true i (length (p .predicates)) e, ok .predicates .few))
-  goal-known ok s (suc (suc zero)) i e = fails {i = i} (omega (arith, ltb-true i (length (p .predicates)) e, ok .predicates .few))
-  goal-known ok s (suc (suc (suc zero))) i e = low-end (set-lt ok s i e)
-  goal-known ok s (suc (suc (suc (suc zero)))) i e = high-end (set-lt ok s i e)
-  goal-known ok s (suc (suc (suc (suc (suc g))))) i e = never e
+  goal-known : WellFormed p → (s : ℕ) (g : Goal) (i : ℕ) → goalAllowed p s g i ≡ true → Placed (goalNumber g) i
+  goal-known ok s CannotHappen i e = rw (eqb-true i 0 e) cannot
+  goal-known ok s HoldsAfter i e = holds {i = i} (omega (arith, ltb-true i (length (p .predicates)) e, ok .predicates .few))
+  goal-known ok s FailsAfter i e = fails {i = i} (omega (arith, ltb-true i (length (p .predicates)) e, ok .predicates .few))
+  goal-known ok s NotBelow i e = low-end (set-lt ok s i e)
+  goal-known ok s NotAbove i e = high-end (set-lt ok s i e)
 
   pub claims-sound : WellFormed p → (ls : List Lemma) → Each (LemmaOk p) ls → (c : Claim) → List·Memᴰ c (claims p ls) → Sound c
   claims-sound ok ls good c d =
@@ -61,31 +60,31 @@ module _ (p : Program) where
       rw e (record { goal = goal-known ok (l .source) (l .goal) (l .index) (o .goal); premises = o .payload })
 
   -- ---- what they show
-  module _ (source set goal index : ℕ) where
-    lemma-is : (l : Lemma) → (lemmaApplies p source (literalsIn 14 set) goal index l ≡ true) ↔ ((accepted p l ≡ true) × Shows source set goal index (claimOf l))
+  module _ (source set : ℕ) (goal : Goal) (index : ℕ) where
+    lemma-is : (l : Lemma) → (lemmaApplies p source (literalsIn 14 set) goal index l ≡ true) ↔ ((accepted p l ≡ true) × Shows source set (goalNumber goal) index (claimOf l))
     lemma-is l =
         let a = accepted p l in
         let s = eqb (l .source) source in
-        let g = eqb (l .goal) goal in
+        let g = eqb (goalNumber (l .goal)) (goalNumber goal) in
         let i = eqb (l .index) index in
         let (to, back) = subset-is (l .premises .0) set in (
           λ h. let (h₁, q) = and-true (a && s && g && i) (allAmong (literalsIn 14 (l .premises .0)) (literalsIn 14 set)) h in
               let (h₂, qi) = and-true (a && s && g) i h₁ in
               let (h₃, qg) = and-true (a && s) g h₂ in
               let (qa, qs) = and-true a s h₃ in
-              (qa, (eqb-true (l .source) source qs, eqb-true (l .goal) goal qg, eqb-true (l .index) index qi, to q)),
+              (qa, (eqb-true (l .source) source qs, eqb-true (goalNumber (l .goal)) (goalNumber goal) qg, eqb-true (l .index) index qi, to q)),
           λ w. let (qs, qg, qi, q) = w .1 in
-              rw (w .0, eq-eqb (l .source) source qs, eq-eqb (l .goal) goal qg, eq-eqb (l .index) index qi, back q) refl,
+              rw (w .0, eq-eqb (l .source) source qs, eq-eqb (goalNumber (l .goal)) (goalNumber goal) qg, eq-eqb (l .index) index qi, back q) refl,
         )
 
-    applied-is : (ls : List Lemma) → (applies p ls source (literalsIn 14 set) goal index ≡ true) ↔ Some (Shows source set goal index) (claims p ls)
+    applied-is : (ls : List Lemma) → (applies p ls source (literalsIn 14 set) goal index ≡ true) ↔ Some (Shows source set (goalNumber goal) index) (claims p ls)
     unfolding applies claims
     applied-is [] = (λ h. never h, λ w. absurd (List·Memᴰ·not-nil (w .1)))
     applied-is (l ∷ ls) =
         let (to, back) = applied-is ls in
         let (there, here) = lemma-is l in
         let (split, join) = or-cases (lemmaApplies p source (literalsIn 14 set) goal index l) (applies p ls source (literalsIn 14 set) goal index) in
-        let (out, into) = some-with (Shows source set goal index) (accepted p l) (claimOf l) (claims p ls) in (
+        let (out, into) = some-with (Shows source set (goalNumber goal) index) (accepted p l) (claimOf l) (claims p ls) in (
           λ h. into (⊎-elim (λ q. inl (there q)) (λ q. inr (to q)) (split h)),
           λ w. join (⊎-elim (λ q. inl (here q)) (λ q. inr (back q)) (out w)),
         )
@@ -95,10 +94,10 @@ module _ (p : Program) where
     applied-allowed ls good h =
         let (c, d, w) = applied-is ls .0 h in
         let (l, o, e) = claim-told ls good c d in
-        allowed l o (subst (Shows source set goal index) e w)
+        allowed l o (subst (Shows source set (goalNumber goal) index) e w)
       where
-        allowed : (l : Lemma) → LemmaOk p l → Shows source set goal index (claimOf l) → goalAllowed p source goal index ≡ true
-        allowed l o w = rw (← w .0, ← w .1, ← w .2) (o .goal)
+        allowed : (l : Lemma) → LemmaOk p l → Shows source set (goalNumber goal) index (claimOf l) → goalAllowed p source goal index ≡ true
+        allowed l o w = rw (← w .0, ← same-goal (l .goal) goal (w .1), ← w .2) (o .goal)
 
 same-test : (x y : Bool) → (x ≡ true → y ≡ true) → (y ≡ true → x ≡ true) → x ≡ y
 same-test true y f b = sym (f refl)
@@ -106,11 +105,11 @@ same-test false true f b = b refl
 same-test false false f b = refl
 
 -- the gathered word says of each goal and index whether a lemma applies
-pub applies-is : (p : Program) → WellFormed p → (ls : List Lemma) → Each (LemmaOk p) ls → (source set goal index : ℕ) → Goal goal index
-    → has (placeOf goal index) (gathered source set (map entryOf (claims p ls))) ≡ applies p ls source (literalsIn 14 set) goal index
+pub applies-is : (p : Program) → WellFormed p → (ls : List Lemma) → Each (LemmaOk p) ls → (source set : ℕ) (goal : Goal) (index : ℕ) → Placed (goalNumber goal) index
+    → has (placeOf (goalNumber goal) index) (gathered source set (map entryOf (claims p ls))) ≡ applies p ls source (literalsIn 14 set) goal index
 applies-is p ok ls good source set goal index g =
     let word = gathered source set (map entryOf (claims p ls)) in
     let (to, back) = shown-by source set g (claims p ls) (claims-sound p ok ls good) in
     let (there, here) = applied-is p source set goal index ls in
-    same-test (has (placeOf goal index) word) (applies p ls source (literalsIn 14 set) goal index)
-    (λ h. here (to (eqb-true (bitOf (placeOf goal index) word) 1 h))) (λ h. eq-eqb (bitOf (placeOf goal index) word) 1 (back (there h)))
+    same-test (has (placeOf (goalNumber goal) index) word) (applies p ls source (literalsIn 14 set) goal index)
+    (λ h. here (to (eqb-true (bitOf (placeOf (goalNumber goal) index) word) 1 h))) (λ h. eq-eqb (bitOf (placeOf (goalNumber goal) index) word) 1 (back (there h)))

@@ -11,7 +11,7 @@ use Rattle.words.specs.Words.{payload}
 use Rattle.grammar.specs.Programs.{Program}
 use Rattle.grammar.specs.WellFormed.{Each, WellFormed}
 use Rattle.runs.specs.Runs.{has}
-use Rattle.lemmas.specs.Lemmas.{Lemma, START}
+use Rattle.lemmas.specs.Lemmas.{Goal, CannotHappen, HoldsAfter, FailsAfter, Lemma, START}
 use Rattle.lemmas.specs.LemmaGrammar.{goalAllowed, LemmaOk}
 use Rattle.sets.specs.Sets.{bitOf, Member, apart}
 use Rattle.sets.proofs.Bits.{bit-mod}
@@ -102,14 +102,14 @@ module _ (p : Program) (ok : WellFormed p) (ls : List Lemma) (good : Each (Lemma
     here = successorOf (gathered source set tables)
 
     -- nothing is shown of a predicate that the program has not
-    unknown : (goal j : ℕ) → (goalAllowed p source goal j ≡ true → j < length (p .predicates)) → length (p .predicates) ≤ j → applies p ls source (literalsIn 14 set) goal j ≡ false
+    unknown : (goal : Goal) (j : ℕ) → (goalAllowed p source goal j ≡ true → j < length (p .predicates)) → length (p .predicates) ≤ j → applies p ls source (literalsIn 14 set) goal j ≡ false
     unknown goal j known le = not-so (applies p ls source (literalsIn 14 set) goal j) (λ h. let lt = known (applied-allowed p source set goal j ls good h) in omega arith)
 
-    none-past : (j : ℕ) → length (p .predicates) ≤ j → (applies p ls source (literalsIn 14 set) 1 j ≡ false) × (applies p ls source (literalsIn 14 set) 2 j ≡ false)
-    none-past j le = (unknown 1 j (ltb-true j (length (p .predicates))) le, unknown 2 j (ltb-true j (length (p .predicates))) le)
+    none-past : (j : ℕ) → length (p .predicates) ≤ j → (applies p ls source (literalsIn 14 set) HoldsAfter j ≡ false) × (applies p ls source (literalsIn 14 set) FailsAfter j ≡ false)
+    none-past j le = (unknown HoldsAfter j (ltb-true j (length (p .predicates))) le, unknown FailsAfter j (ltb-true j (length (p .predicates))) le)
 
-    digits : (j : ℕ) → j < 14 → (applies p ls source (literalsIn 14 set) 1 j ≡ has j (gathered source set tables)) × (applies p ls source (literalsIn 14 set) 2 j ≡ has (14 + j) (gathered source set tables))
-    digits j h = (sym (applies-is p ok ls good source set 1 j (holds h)), sym (applies-is p ok ls good source set 2 j (fails h)))
+    digits : (j : ℕ) → j < 14 → (applies p ls source (literalsIn 14 set) HoldsAfter j ≡ has j (gathered source set tables)) × (applies p ls source (literalsIn 14 set) FailsAfter j ≡ has (14 + j) (gathered source set tables))
+    digits j h = (sym (applies-is p ok ls good source set HoldsAfter j (holds h)), sym (applies-is p ok ls good source set FailsAfter j (fails h)))
 
     pub successor-is : successor p ls source (literalsIn 14 set) ≡ monomialOf here
     successor-is =
@@ -117,7 +117,7 @@ module _ (p : Program) (ok : WellFormed p) (ls : List Lemma) (good : Each (Lemma
         let all : (14 - n) + n ≡ 14 = omega (arith, ok .predicates .few) in
         let show = shown p ls source (literalsIn 14 set) in
         ap (cond (show Disabled) False) (sym (conjuncts-more show n (14 - n) none-past) ∙ ap (conjuncts show) all)
-        ∙ formula-is show (gathered source set tables) digits (sym (applies-is p ok ls good source set 0 0 cannot))
+        ∙ formula-is show (gathered source set tables) digits (sym (applies-is p ok ls good source set CannotHappen 0 cannot))
 
     pub answer-is : answerOf here ≡ answer (successor p ls source (literalsIn 14 set))
     answer-is = go here refl ∙ sym (ap answer successor-is)

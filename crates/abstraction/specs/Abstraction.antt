@@ -16,7 +16,7 @@ use lib.ListN.{length}
 use Rattle.words.specs.Words.{payload, word, SETS}
 use Rattle.grammar.specs.Programs.{Program}
 use Rattle.runs.specs.Runs.{has}
-use Rattle.lemmas.specs.Lemmas.{Lemma, START, accepted}
+use Rattle.lemmas.specs.Lemmas.{Goal, CannotHappen, HoldsAfter, FailsAfter, goalNumber, Lemma, START, accepted}
 use Rattle.formula.specs.Formula.{Literal, B, NotB, Monomial, False, And, Fact, Disabled, Then, formula3}
 use Rattle.search.specs.Search.{Answer, To, None, Result, explored}
 use Rattle.records.specs.Records.{mostNodes}
@@ -44,18 +44,19 @@ allAmong [] ms = true
 allAmong (l ∷ ls) ms = among l ms && allAmong ls ms
 
 -- A lemma applies at a node when it is accepted and its premises are all literals of the node.
-abbrev pub lemmaApplies : Program → ℕ → List Literal → ℕ → ℕ → Lemma → Bool
+abbrev pub lemmaApplies : Program → ℕ → List Literal → Goal → ℕ → Lemma → Bool
 lemmaApplies p source exp goal index l =
-    accepted p l && eqb (l .source) source && eqb (l .goal) goal && eqb (l .index) index && allAmong (literalsIn 14 (l .premises .0)) exp
+    accepted p l && eqb (l .source) source && eqb (goalNumber (l .goal)) (goalNumber goal) && eqb (l .index) index
+    && allAmong (literalsIn 14 (l .premises .0)) exp
 
-unfoldable pub applies : Program → List Lemma → ℕ → List Literal → ℕ → ℕ → Bool
+unfoldable pub applies : Program → List Lemma → ℕ → List Literal → Goal → ℕ → Bool
 applies p [] source exp goal index = false
 applies p (l ∷ ls) source exp goal index = lemmaApplies p source exp goal index l || applies p ls source exp goal index
 
 abbrev pub shown : Program → List Lemma → ℕ → List Literal → Fact → Bool
-shown p ls source exp Disabled = applies p ls source exp 0 0
-shown p ls source exp (Then (B j)) = applies p ls source exp 1 j
-shown p ls source exp (Then (NotB j)) = applies p ls source exp 2 j
+shown p ls source exp Disabled = applies p ls source exp CannotHappen 0
+shown p ls source exp (Then (B j)) = applies p ls source exp HoldsAfter j
+shown p ls source exp (Then (NotB j)) = applies p ls source exp FailsAfter j
 
 abbrev pub successor : Program → List Lemma → ℕ → List Literal → Monomial
 successor p ls source exp = formula3 (shown p ls source exp) (length (p .predicates))

@@ -6,11 +6,11 @@
 use mathlib.Core.Bool.{Bool, true, false}
 use mathlib.Core.List.{List, [], _∷_}
 use Rattle.grammar.specs.Programs.{Program}
-use Rattle.lemmas.specs.Lemmas.{Lemma, accepted}
+use Rattle.lemmas.specs.Lemmas.{goalNumber, Lemma, accepted}
 use Rattle.gather.specs.Gathering.{Claim}
 
 abbrev pub claimOf : Lemma → Claim
-claimOf l = record { source = l .source; goal = l .goal; index = l .index; premises = l .premises .0 }
+claimOf l = record { source = l .source; goal = goalNumber (l .goal); index = l .index; premises = l .premises .0 }
 
 abbrev pub withClaim : Bool → Claim → List Claim → List Claim
 withClaim true c cs = c ∷ cs

@@ -12,7 +12,6 @@ use lib.Seq.{sets}
 use borrow.Author.Tests.{ltb-true, eqb-true}
 use mir.Syntax.{w64}
 use mir.Val.{SFits}
-use Rattle.integers.proofs.Tests.{false-true}
 use Rattle.integers.proofs.Laws.{Within, within-fits, within-weaken, sum, opposite, literal}
 use Rattle.words.specs.Words.{word, MULT}
 use Rattle.rows.specs.declared.Row.{Row}
@@ -29,7 +28,7 @@ use Rattle.runs.specs.Runs.{actionOf, rowIf}
 use Rattle.runs.proofs.Sizes.{every-set, zeros-small}
 use Rattle.sums.specs.Sums.{addScaled, combine, constRow, afterwards}
 use Rattle.acceptance.specs.Adding.{multOf}
-use Rattle.lemmas.specs.Lemmas.{predicate, range, newRows, negatedGoal}
+use Rattle.lemmas.specs.Lemmas.{Goal, CannotHappen, HoldsAfter, FailsAfter, NotBelow, NotAbove, goalNumber, predicate, range, newRows, negatedGoal}
 use Rattle.lemmas.specs.LemmaGrammar.{goalAllowed, setsVariable, encodeMultiplier}
 use Rattle.lemmas.proofs.LemmaLaws.{sets-known, action-rising}
 use Rattle.ask.specs.Weighing.{endRow, goalRow, refuted}
@@ -77,21 +76,20 @@ module _ (p : Program) (ok : WellFormed p) (s : ℕ) where
   abbrev row : ℕ → ℕ → Row
   row g i = goalRow (sets zeroRanges 0 (p .ranges)) (sets zeroRows 0 (p .predicates)) g i
 
-  pub negated-is : (g i : ℕ) → goalAllowed p s g i ≡ true → rowIf (not (eqb g 0)) (afterwards (newRows p s) (refuted g (row g i))) ≡ negatedGoal p s g i
-  negated-is zero i e = refl
-  negated-is (suc zero) i e = rw (predicate-at i (ltb-true i (length (p .predicates)) e)) refl
-  negated-is (suc (suc zero)) i e = rw (predicate-at i (ltb-true i (length (p .predicates)) e)) refl
-  negated-is (suc (suc (suc zero))) i e = rw (range-at i (set-known i e)) refl
-  negated-is (suc (suc (suc (suc zero)))) i e = rw (range-at i (set-known i e)) refl
-  negated-is (suc (suc (suc (suc (suc g))))) i e = false-true e
+  pub negated-is : (g : Goal) (i : ℕ) → goalAllowed p s g i ≡ true
+      → rowIf (not (eqb (goalNumber g) 0)) (afterwards (newRows p s) (refuted (goalNumber g) (row (goalNumber g) i))) ≡ negatedGoal p s g i
+  negated-is CannotHappen i e = refl
+  negated-is HoldsAfter i e = rw (predicate-at i (ltb-true i (length (p .predicates)) e)) refl
+  negated-is FailsAfter i e = rw (predicate-at i (ltb-true i (length (p .predicates)) e)) refl
+  negated-is NotBelow i e = rw (range-at i (set-known i e)) refl
+  negated-is NotAbove i e = rw (range-at i (set-known i e)) refl
 
-  pub index-few : (g i : ℕ) → goalAllowed p s g i ≡ true → (g ≤ 2 → i < 14) × (2 < g → i < 8)
-  index-few zero i e = (λ l. omega (arith, eqb-true i 0 e), λ l. absurd (omega arith))
-  index-few (suc zero) i e = (λ l. omega (arith, ltb-true i (length (p .predicates)) e, ok .predicates .few), λ l. absurd (omega arith))
-  index-few (suc (suc zero)) i e = (λ l. omega (arith, ltb-true i (length (p .predicates)) e, ok .predicates .few), λ l. absurd (omega arith))
-  index-few (suc (suc (suc zero))) i e = (λ l. absurd (omega arith), λ l. omega (arith, set-known i e, ok .ranges .few))
-  index-few (suc (suc (suc (suc zero)))) i e = (λ l. absurd (omega arith), λ l. omega (arith, set-known i e, ok .ranges .few))
-  index-few (suc (suc (suc (suc (suc g))))) i e = false-true e
+  pub index-few : (g : Goal) (i : ℕ) → goalAllowed p s g i ≡ true → (goalNumber g ≤ 2 → i < 14) × (2 < goalNumber g → i < 8)
+  index-few CannotHappen i e = (λ l. omega (arith, eqb-true i 0 e), λ l. absurd (omega arith))
+  index-few HoldsAfter i e = (λ l. omega (arith, ltb-true i (length (p .predicates)) e, ok .predicates .few), λ l. absurd (omega arith))
+  index-few FailsAfter i e = (λ l. omega (arith, ltb-true i (length (p .predicates)) e, ok .predicates .few), λ l. absurd (omega arith))
+  index-few NotBelow i e = (λ l. absurd (omega arith), λ l. omega (arith, set-known i e, ok .ranges .few))
+  index-few NotAbove i e = (λ l. absurd (omega arith), λ l. omega (arith, set-known i e, ok .ranges .few))
 
 -- ---- the rows of the ends, in bounds
 pub low-fits : {g : Range} → SmallRange g → SFits w64 (pos 0 -ℤ g .low)

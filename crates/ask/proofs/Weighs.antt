@@ -26,7 +26,7 @@ use Rattle.runs.specs.Runs.{actionOf, rowIf, literalRows}
 use Rattle.runs.proofs.Sizes.{front-stored, ReadRows, guards-read, new-rows-read, ranges-small}
 use Rattle.sums.specs.Sums.{combine, constRow, afterwards}
 use Rattle.acceptance.specs.Adding.{multOf}
-use Rattle.lemmas.specs.Lemmas.{Lemma, sourceRows, negatedGoal, rowsOf, total, largestOf}
+use Rattle.lemmas.specs.Lemmas.{goalNumber, Lemma, sourceRows, negatedGoal, rowsOf, total, largestOf}
 use Rattle.lemmas.specs.LemmaGrammar.{encodeMultiplier, encodeLemma, LemmaOk}
 use Rattle.lemmas.specs.Sources.{theProgram, Held, sourceOf}
 use Rattle.lemmas.specs.declared.Source.{Source}
@@ -47,7 +47,7 @@ module _ (p : Program) (ok : WellFormed p) (ls : List ℕ) (at : ℕ) (h : IsLem
   good = taken .good
 
   -- its first two words
-  pub fields : (bits 27 20 (getD ls at 0) ≡ here .source) × (bits 19 16 (getD ls at 0) ≡ here .goal) × (bits 7 0 (getD ls at 0) ≡ here .index) × (payload (getD ls (at + 1) 0) ≡ here .premises .0)
+  pub fields : (bits 27 20 (getD ls at 0) ≡ here .source) × (bits 19 16 (getD ls at 0) ≡ goalNumber (here .goal)) × (bits 7 0 (getD ls at 0) ≡ here .index) × (payload (getD ls (at + 1) 0) ≡ here .premises .0)
   fields =
       let (k, s, g, z, i) = first-is p ok here good in
       let first = sym (getD-drop at ls 0 0 ∙ ap (λ (n : ℕ). getD ls n 0) (add-zero at)) ∙ ap (λ (l : List ℕ). getD l 0 0) (taken .words) in
@@ -93,7 +93,7 @@ module _ (ws : List ℕ) {g : Image} (held : Held ws g) (ls : List ℕ) (at : �
   -- of the numbers that were read and what the source offers
   module _ {w s goal i : ℕ} {x : Source} (ew : w ≡ getD ls at 0) (es : s ≡ getD ls (at + 1) 0) (eg : goal ≡ bits 19 16 w) (ei : i ≡ bits 7 0 w)
       (ex : x ≡ sourceOf p (bits 27 20 (getD ls at 0))) where
-    goal-is : goal ≡ l .goal
+    goal-is : goal ≡ goalNumber (l .goal)
     goal-is = eg ∙ ap (bits 19 16) ew ∙ fields p ok ls at h .1
 
     index-is : i ≡ l .index

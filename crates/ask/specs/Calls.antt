@@ -19,14 +19,14 @@ use Rattle.rows.specs.Rows.{exact}
 use Rattle.grammar.specs.Reading.{Read, got, refused}
 use Rattle.grammar.specs.Programs.{Program}
 use Rattle.programs.specs.Calls.{read}
-use Rattle.lemmas.specs.Lemmas.{Lemma, largestOf}
+use Rattle.lemmas.specs.Lemmas.{CannotHappen, Lemma, largestOf}
 use Rattle.lemmas.specs.LemmaGrammar.{readLemmas}
 use Rattle.lemmas.specs.Truth.{True}
 use Rattle.ask.specs.declared.Asked.{Asked}
 use Rattle.ask.specs.declared.Asked.the-variants.{Accepted, NotAccepted, Refused}
 
 abbrev pub noLemma : Lemma
-noLemma = record { source = 0; goal = 0; index = 0; premises = noLiterals; multipliers = [] }
+noLemma = record { source = 0; goal = CannotHappen; index = 0; premises = noLiterals; multipliers = [] }
 
 abbrev pub weighed : ℕ → Exact → Asked
 weighed k (Value z) = cond (ltZ z (pos 0)) Accepted NotAccepted

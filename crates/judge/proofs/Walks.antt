@@ -8,7 +8,7 @@ use lib.ListN.{length}
 use Rattle.words.specs.declared.Literals.{Literals}
 use Rattle.grammar.specs.Programs.{Assignment, Action, Program}
 use Rattle.grammar.specs.WellFormed.{Each}
-use Rattle.lemmas.specs.Lemmas.{Lemma}
+use Rattle.lemmas.specs.Lemmas.{Goal, NotBelow, NotAbove, Lemma}
 use Rattle.words.specs.Words.{payload}
 use Rattle.formula.specs.Formula.{Literal}
 use Rattle.search.specs.Search.{Answer, Graph, Done, count}
@@ -44,13 +44,13 @@ forbids-at k m b (c ∷ cs) =
     each-append (λ f. nodeOf f ≡ k) (unless (contradicted (literalsIn 14 (c .0)) m) (Forbid k b)) (forbids k m (suc b) cs)
     (unless-at k (contradicted (literalsIn 14 (c .0)) m) (Forbid k b) refl) (forbids-at k m (suc b) cs)
 
-ends-at : (shows : ℕ → ℕ → Bool) (k j : ℕ) (ss : List Assignment) → At k (ends shows k j ss)
+ends-at : (shows : Goal → ℕ → Bool) (k j : ℕ) (ss : List Assignment) → At k (ends shows k j ss)
 unfolding ends
 ends-at shows k j [] = tt
 ends-at shows k j (s ∷ ss) =
-    each-append (λ f. nodeOf f ≡ k) (unless (shows 3 (s .variable)) (RunOff k j (s .variable) false)) _ (unless-at k (shows 3 (s .variable)) (RunOff k j (s .variable) false) refl)
-    (each-append (λ f. nodeOf f ≡ k) (unless (shows 4 (s .variable)) (RunOff k j (s .variable) true)) (ends shows k j ss)
-    (unless-at k (shows 4 (s .variable)) (RunOff k j (s .variable) true) refl) (ends-at shows k j ss))
+    each-append (λ f. nodeOf f ≡ k) (unless (shows NotBelow (s .variable)) (RunOff k j (s .variable) false)) _ (unless-at k (shows NotBelow (s .variable)) (RunOff k j (s .variable) false) refl)
+    (each-append (λ f. nodeOf f ≡ k) (unless (shows NotAbove (s .variable)) (RunOff k j (s .variable) true)) (ends shows k j ss)
+    (unless-at k (shows NotAbove (s .variable)) (RunOff k j (s .variable) true) refl) (ends-at shows k j ss))
 
 if-at : (k : ℕ) (b : Bool) (fs : List Finding) → At k fs → At k (cond b fs [])
 if-at k true fs h = h

@@ -1,16 +1,16 @@
 -- What a lemma's first two words may say, by the program's counts and what the source sets; how many rows a lemma has.
 use mathlib.Core.Path.{_≡_, refl, sym, _∙_}
-use mathlib.Core.Bool.{Bool, true, false, cond, _||_, not}
+use mathlib.Core.Bool.{Bool, true, false, cond, _&&_, _||_, not}
 use mathlib.Core.List.{List, [], _∷_}
 use Prim.Native.Nat.{ℕ, zero, suc, _+_, _-_, _≤_, _<_}
 use native.Mathlib.Omega.{arith}
 use native.Mathlib.Nat.{sub-zero}
 use native.Mathlib.Numerals.{add-one}
 use native.Mathlib.Decide.{ℕ-discrete}
-use lib.Dec.{eqb, ltb}
+use lib.Dec.{eqb, ltb, leb}
 use lib.ListN.{length, getD, set, replicate, length-append, length-set}
 use lib.Seq.{getD-set-same, getD-set-other}
-use borrow.Author.Tests.{eq-eqb, ne-eqb}
+use borrow.Author.Tests.{eq-eqb, ne-eqb, lt-leb}
 use Rattle.words.specs.Words.{bits, payload}
 use Rattle.rows.specs.declared.Row.{Row}
 use Rattle.rows.specs.Rows.{negated}
@@ -20,7 +20,7 @@ use Rattle.actions.specs.Results.{marked, noMarks}
 use Rattle.programs.specs.declared.Image.{Image}
 use Rattle.programs.proofs.Places.{noneAction}
 use Rattle.runs.specs.Runs.{has, rowIf, literalRows, actionOf}
-use Rattle.lemmas.specs.Lemmas.{Lemma, START, negatedGoal, sourceRows, rowsOf}
+use Rattle.lemmas.specs.Lemmas.{Goal, CannotHappen, HoldsAfter, FailsAfter, NotBelow, NotAbove, goalNumber, goalOf, Lemma, START, negatedGoal, sourceRows, rowsOf}
 use Rattle.lemmas.specs.LemmaGrammar.{setsVariable, goalAllowed, headAllowed, premisesAllowed, lemmaOf}
 use Rattle.lemmas.specs.Sources.{theProgram, Held, shapeOf, goalBy, headBy, premisesBy, oneIf, literalCount, rowCount}
 use Rattle.lemmas.specs.declared.Shape.{Shape}
@@ -81,17 +81,17 @@ copied (suc n) d zero = refl
 copied (suc n) d (suc i) = copied n d i
 
 module _ (p : Program) (ok : WellFormed p) (s : ℕ) where
-  marks-of : (i : ℕ) → getD (marked noMarks (actionOf p s .sets)) i false ≡ setsVariable (actionOf p s .sets) i
+  pub marks-of : (i : ℕ) → getD (marked noMarks (actionOf p s .sets)) i false ≡ setsVariable (actionOf p s .sets) i
   marks-of i = marks-is (actionOf p s .sets) noMarks (length (p .ranges)) 0 (action-rising (length (p .ranges)) (p .actions) s (ok .actions .each)) (ok .ranges .few) i
       ∙ rw (copied 8 false i) refl
 
-  pub goal-by : (g i : ℕ) → goalBy (length (p .predicates)) (marked noMarks (actionOf p s .sets)) g i ≡ goalAllowed p s g i
+  pub goal-by : (g i : ℕ) → goalBy (length (p .predicates)) (marked noMarks (actionOf p s .sets)) g i ≡ (leb g 4 && goalAllowed p s (goalOf g) i)
   goal-by zero i = refl
   goal-by (suc zero) i = refl
   goal-by (suc (suc zero)) i = refl
   goal-by (suc (suc (suc zero))) i = marks-of i
   goal-by (suc (suc (suc (suc zero)))) i = marks-of i
-  goal-by (suc (suc (suc (suc (suc g))))) i = refl
+  goal-by (suc (suc (suc (suc (suc g))))) i = rw (lt-leb (suc (suc (suc (suc (suc g))))) 4 (omega arith)) refl
 
 -- ---- how many rows
 length-if : (b : Bool) (r : Row) → length (rowIf b r) ≡ oneIf b
@@ -104,14 +104,21 @@ literals-counted i [] set = refl
 literals-counted i (r ∷ rs) set =
     length-append (rowIf (has i set) r) _ ∙ rw (length-append (rowIf (has (14 + i) set) (negated r)) (literalRows (suc i) rs set), length-if (has i set) r, length-if (has (14 + i) set) (negated r), literals-counted (suc i) rs set) refl
 
-goals-counted : (p : Program) (s g i : ℕ) → length (negatedGoal p s g i) ≡ oneIf (not (eqb g 0))
-goals-counted p s zero i = refl
-goals-counted p s (suc zero) i = refl
-goals-counted p s (suc (suc zero)) i = refl
-goals-counted p s (suc (suc (suc zero))) i = refl
-goals-counted p s (suc (suc (suc (suc g)))) i = rw (ne-eqb (suc (suc (suc (suc g)))) 0 (λ e. omega arith)) refl
+goals-counted : (p : Program) (s : ℕ) (g : Goal) (i : ℕ) → length (negatedGoal p s g i) ≡ oneIf (not (eqb (goalNumber g) 0))
+goals-counted p s CannotHappen i = refl
+goals-counted p s HoldsAfter i = refl
+goals-counted p s FailsAfter i = refl
+goals-counted p s NotBelow i = refl
+goals-counted p s NotAbove i = refl
 
-pub rows-counted : (p : Program) (l : Lemma) → rowCount (l .goal) (length (p .predicates)) (l .premises .0) (length (sourceRows p (l .source))) ≡ length (rowsOf p l)
+none-alike : (n : ℕ) → eqb n 0 ≡ eqb (goalNumber (goalOf n)) 0
+none-alike zero = refl
+none-alike (suc zero) = refl
+none-alike (suc (suc zero)) = refl
+none-alike (suc (suc (suc zero))) = refl
+none-alike (suc (suc (suc (suc n)))) = ne-eqb (suc (suc (suc (suc n)))) 0 (λ e. omega arith)
+
+pub rows-counted : (p : Program) (l : Lemma) → rowCount (goalNumber (l .goal)) (length (p .predicates)) (l .premises .0) (length (sourceRows p (l .source))) ≡ length (rowsOf p l)
 rows-counted p l =
     let m = literals-counted 0 (p .predicates) (l .premises .0) in
     sym (length-append (negatedGoal p (l .source) (l .goal) (l .index)) _
@@ -171,7 +178,7 @@ module _ (ws : List ℕ) {g : Image} (h : Held ws g) where
     premises-known = rw (en, ew, es, counts ws h 0 .1) refl
 
     pub rows-known : rowCount g′ (g .preds) (payload s′) (x .count) ≡ length (rowsOf p (lemmaOf w s []))
-    rows-known = rw (ex, eg, ew, es, counts ws h 0 .1) (rows-counted p (lemmaOf w s []))
+    rows-known = rw (ex, eg, ew, es, counts ws h 0 .1, none-alike (bits 19 16 w)) (rows-counted p (lemmaOf w s []))
 
     pub source-few : (g .preds ≤ 14) × (x .count ≤ 14)
     source-few = rw ex (omega (arith, counts ws h 0 .1, counts ws h 0 .4), omega (arith, source-rows-good p (h .accepted .good) (bits 27 20 w) .few))

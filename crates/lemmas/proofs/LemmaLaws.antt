@@ -19,7 +19,7 @@ use Rattle.grammar.specs.WellFormed.{Each, Few, Rising, ActionOk, WellFormed}
 use Rattle.grammar.proofs.ReadingLaws.{Codec, Taken, retaken, one-taken, bound, one-out, one-in, not-got, times-codec, many-out, many-into}
 use Rattle.programs.proofs.Places.{noneAction}
 use Rattle.runs.specs.Runs.{actionOf}
-use Rattle.lemmas.specs.Lemmas.{Lemma, START, rowsOf}
+use Rattle.lemmas.specs.Lemmas.{Goal, CannotHappen, HoldsAfter, FailsAfter, NotBelow, NotAbove, goalNumber, goalOf, Lemma, START, rowsOf}
 use Rattle.lemmas.specs.LemmaGrammar.{setsVariable, sourceAllowed, goalAllowed, headAllowed, premisesAllowed, multiplier, lemmaOf, lemma, list, inLemmas, readLemmas, encodeMultiplier, encodeLemma, LemmaOk}
 
 -- ---- MULT
@@ -38,6 +38,39 @@ mult-codec =
           (suc i, rw (one-in MULT always always multAllowed (word MULT a) vs i (kind-word MULT a small) refl refl (rw same (le-leb a 65535 p)), same) refl);
       head = λ a vs p h. rw (kind-word MULT a (omega arith)) refl;
     }
+
+-- ---- goals and their numbers
+goal-again : (g : Goal) → goalOf (goalNumber g) ≡ g
+goal-again CannotHappen = refl
+goal-again HoldsAfter = refl
+goal-again FailsAfter = refl
+goal-again NotBelow = refl
+goal-again NotAbove = refl
+
+number-again : (n : ℕ) → n ≤ 4 → goalNumber (goalOf n) ≡ n
+number-again zero h = refl
+number-again (suc zero) h = refl
+number-again (suc (suc zero)) h = refl
+number-again (suc (suc (suc zero))) h = refl
+number-again (suc (suc (suc (suc n)))) h = omega arith
+
+pub same-goal : (g h : Goal) → goalNumber g ≡ goalNumber h → g ≡ h
+same-goal g h e = sym (goal-again g) ∙ ap goalOf e ∙ goal-again h
+
+goal-few : (g : Goal) → goalNumber g ≤ 4
+goal-few CannotHappen = omega arith
+goal-few HoldsAfter = omega arith
+goal-few FailsAfter = omega arith
+goal-few NotBelow = omega arith
+goal-few NotAbove = omega arith
+
+-- the goal of a first word that is allowed
+pub head-goal : (p : Program) (w : ℕ) → headAllowed p w ≡ true → goalNumber (goalOf (bits 19 16 w)) ≡ bits 19 16 w
+head-goal p w e =
+    let n = bits 19 16 w in
+    let allowed = goalAllowed p (bits 27 20 w) (goalOf n) (bits 7 0 w) in
+    let (front, back) = and-true (eqb (bits 15 8 w) 0 && sourceAllowed p (bits 27 20 w)) (leb n 4 && allowed) e in
+    number-again n (leb-true n 4 (and-true (leb n 4) allowed back .0))
 
 -- ---- the numbers of a well-formed lemma fit their fields
 pub sets-known : (vars v : ℕ) (ss : List Assignment) (i : ℕ) → Rising vars v ss → setsVariable ss i ≡ true → i < vars
@@ -58,13 +91,12 @@ module _ (p : Program) (ok : WellFormed p) where
   set-lt : (s i : ℕ) → setsVariable (actionOf p s .sets) i ≡ true → i < 256
   set-lt s i e = omega (arith, sets-known (length (p .ranges)) 0 (actionOf p s .sets) i (action-rising (length (p .ranges)) (p .actions) s (ok .actions .each)) e, ok .ranges .few)
 
-  goal-lt : (s g i : ℕ) → goalAllowed p s g i ≡ true → (g < 16) × (i < 256)
-  goal-lt s zero i e = (omega arith, omega (arith, eqb-true i 0 e))
-  goal-lt s (suc zero) i e = (omega arith, omega (arith, ltb-true i (length (p .predicates)) e, ok .predicates .few))
-  goal-lt s (suc (suc zero)) i e = (omega arith, omega (arith, ltb-true i (length (p .predicates)) e, ok .predicates .few))
-  goal-lt s (suc (suc (suc zero))) i e = (omega arith, set-lt s i e)
-  goal-lt s (suc (suc (suc (suc zero)))) i e = (omega arith, set-lt s i e)
-  goal-lt s (suc (suc (suc (suc (suc g))))) i e = false-true e
+  goal-lt : (s : ℕ) (g : Goal) (i : ℕ) → goalAllowed p s g i ≡ true → i < 256
+  goal-lt s CannotHappen i e = omega (arith, eqb-true i 0 e)
+  goal-lt s HoldsAfter i e = omega (arith, ltb-true i (length (p .predicates)) e, ok .predicates .few)
+  goal-lt s FailsAfter i e = omega (arith, ltb-true i (length (p .predicates)) e, ok .predicates .few)
+  goal-lt s NotBelow i e = set-lt s i e
+  goal-lt s NotAbove i e = set-lt s i e
 
   -- ---- a lemma
   abbrev rowCount : ℕ → ℕ → ℕ
@@ -88,9 +120,11 @@ module _ (p : Program) (ok : WellFormed p) where
       let o = one-out LEMMA always (λ w. room) (headAllowed p) ws i w us k e₁ in
       let q = one-out SETS always always (premised w) us k s us₂ k₂ e₂ in
       let t = times-codec mult-codec (rowCount w s) .out us₂ k₂ ms us₃ k₃ e₃ in
-      let (front, goal) = and-true (eqb (bits 15 8 w) 0 && sourceAllowed p (bits 27 20 w)) (goalAllowed p (bits 27 20 w) (bits 19 16 w) (bits 7 0 w)) (o .allowed-is) in
+      let n = bits 19 16 w in
+      let (front, back) = and-true (eqb (bits 15 8 w) 0 && sourceAllowed p (bits 27 20 w)) (leb n 4 && goalAllowed p (bits 27 20 w) (goalOf n) (bits 7 0 w)) (o .allowed-is) in
+      let (few, goal) = and-true (leb n 4) (goalAllowed p (bits 27 20 w) (goalOf n) (bits 7 0 w)) back in
       let (named, source) = and-true (eqb (bits 15 8 w) 0) (sourceAllowed p (bits 27 20 w)) front in
-      let first = head-word w (o .kind-is) (eqb-true (bits 15 8 w) 0 named) in
+      let first = head-word w (o .kind-is) (eqb-true (bits 15 8 w) 0 named) ∙ ap (λ (m : ℕ). word LEMMA (bits 27 20 w * 2 ^ 20 + m * 2 ^ 16 + bits 7 0 w)) (sym (head-goal p w (o .allowed-is))) in
       let second = word-split s (q .kind-is) in (
         retaken {a = lemmaOf w s ms} (record {
           words = o .words ∙ rw (← first) (ap (λ (r : List ℕ). w ∷ r) (q .words ∙ rw (← second) (ap (λ (r : List ℕ). s ∷ r) (t .words))));
@@ -102,15 +136,16 @@ module _ (p : Program) (ok : WellFormed p) where
 
   module _ (l : Lemma) (good : LemmaOk p l) where
     abbrev first : ℕ
-    first = word LEMMA (l .source * 2 ^ 20 + l .goal * 2 ^ 16 + l .index)
+    first = word LEMMA (l .source * 2 ^ 20 + goalNumber (l .goal) * 2 ^ 16 + l .index)
 
     abbrev second : ℕ
     second = word SETS (l .premises .0)
 
-    pub first-is : (kindOf first ≡ LEMMA) × (bits 27 20 first ≡ l .source) × (bits 19 16 first ≡ l .goal) × (bits 15 8 first ≡ 0) × (bits 7 0 first ≡ l .index)
+    pub first-is : (kindOf first ≡ LEMMA) × (bits 27 20 first ≡ l .source) × (bits 19 16 first ≡ goalNumber (l .goal)) × (bits 15 8 first ≡ 0) × (bits 7 0 first ≡ l .index)
     first-is =
         let a = source-lt (l .source) (good .source) in
-        let (b, c) = goal-lt (l .source) (l .goal) (l .index) (good .goal) in
+        let b = goal-few (l .goal) in
+        let c = goal-lt (l .source) (l .goal) (l .index) (good .goal) in
         (omega arith, omega arith, omega arith, omega arith, omega arith)
 
     starts : kindOf first ≡ LEMMA
@@ -120,7 +155,7 @@ module _ (p : Program) (ok : WellFormed p) where
     lemma-same =
         let (k, s, g, z, i) = first-is in
         let e = payload-word SETS (l .premises .0) (good .payload) in
-        λ t. record { source = s t; goal = g t; index = i t; premises = record { 0 = e t }; multipliers = l .multipliers }
+        λ t. record { source = s t; goal = (ap goalOf g ∙ goal-again (l .goal)) t; index = i t; premises = record { 0 = e t }; multipliers = l .multipliers }
 
     lemma-into : (vs : List ℕ) (i : ℕ) → begins TERM vs ≡ false → (j : ℕ) × (lemma p true (encodeLemma l ++ vs) i ≡ got l vs j)
     unfolding lemma
@@ -128,7 +163,7 @@ module _ (p : Program) (ok : WellFormed p) where
         let (k, s, g, z, x) = first-is in
         let e = payload-word SETS (l .premises .0) (good .payload) in
         let rest = concat encodeMultiplier (l .multipliers) ++ vs in
-        let head : headAllowed p first ≡ true = rw (s, g, z, x, good .source, good .goal) refl in
+        let head : headAllowed p first ≡ true = rw (s, g, z, x, goal-again (l .goal), good .source, le-leb (goalNumber (l .goal)) 4 (goal-few (l .goal)), good .goal) refl in
         let count : rowCount first second ≡ length (l .multipliers) = ap (λ (m : Lemma). length (rowsOf p m)) lemma-same ∙ sym (good .counted) in
         let (j, m) = times-codec mult-codec (length (l .multipliers)) .into (l .multipliers) vs (suc (suc i)) (refl, good .small) h in (
           j,

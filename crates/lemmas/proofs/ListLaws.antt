@@ -16,7 +16,7 @@ use Rattle.words.specs.declared.Refusal.the-variants.{Word}
 use Rattle.grammar.specs.Reading.{Read, got, refused, one, always, pure, after, begins, times, many}
 use Rattle.grammar.specs.Programs.{Program}
 use Rattle.grammar.specs.WellFormed.{WellFormed}
-use Rattle.grammar.proofs.ReadingLaws.{many-out}
+use Rattle.grammar.proofs.ReadingLaws.{one-out, many-out}
 use Rattle.reader.specs.declared.Next.{Next}
 use Rattle.reader.specs.declared.Next.the-variants.{At}
 use Rattle.reader.specs.declared.Next.the-variants.{Refused as Stopped}
@@ -31,7 +31,7 @@ use Rattle.lemmas.specs.LemmaGrammar.{headAllowed, premisesAllowed, mult
 use Rattle.lemmas.specs.Sources.{lemmaRead, noBegins, beginsFrom, listed}
 use Rattle.lemmas.specs.declared.LemmaRead.{LemmaRead}
 use Rattle.lemmas.specs.declared.Begins.{Begins}
-use Rattle.lemmas.proofs.LemmaLaws.{multAllowed, lemma-codec, lemma-full}
+use Rattle.lemmas.proofs.LemmaLaws.{multAllowed, head-goal, lemma-codec, lemma-full}
 
 -- ---- MULT words: k are read, and the words from i on are left
 pub record Mults (ws : List ℕ) (at n i k : ℕ) : Type 0 where
@@ -122,7 +122,10 @@ module _ (p : Program) (room : Bool) (ls : List ℕ) (at : ℕ) where
       pub lemma-taken : {n : ℕ} → nextOf readMults ≡ At n
           → record { source = bits 27 20 first; goal = bits 19 16 first; index = bits 7 0 first; premises = literalsOf second; next = At n } ≡ answer
       unfolding lemma
-      lemma-taken {n} e = let (ms, us, q) = next-at readMults e in rw (head-got, premises-got, q) refl
+      lemma-taken {n} e =
+          let (ms, us, q) = next-at readMults e in
+          let o = one-out LEMMA always (λ x. room) (headAllowed p) (drop at ls) at first (drop (at + 1) ls) (at + 1) head-got in
+          rw (head-got, premises-got, q, head-goal p first (o .allowed-is)) refl
 
 -- ---- the loop over the lemmas: where each begins is stored
 lemma-next : (m : Read Lemma) → lemmaRead m .next ≡ nextOf m

@@ -9,7 +9,7 @@ use lib.IntN.{ℤ, pos, negsuc, negℤ}
 use lib.ListN.{length, getD, set, length-map}
 use lib.Signed.{leZ, ltZ, _≤ℤ_, clashℤ}
 use Rattle.integers.proofs.Int.{var, num, _⊕_, _⊗_, ⊖, below, law, le-in}
-use Rattle.integers.proofs.Tests.{ltZ-true, leZ-true, leZ-false, le-leZ, and-true, false-true}
+use Rattle.integers.proofs.Tests.{ltZ-true, leZ-true, leZ-false, le-leZ, and-true}
 use Rattle.rows.specs.declared.Row.{Row}
 use Rattle.rows.specs.declared.Range.{Range}
 use Rattle.rows.specs.Rows.{rowValue, Holds, negated, largestValue, InRanges, in-none, in-one}
@@ -25,7 +25,7 @@ use Rattle.runs.proofs.Sizes.{every-each, unit-value}
 use Rattle.runs.proofs.NewValues.{new-values}
 use Rattle.sums.specs.Sums.{combine, constRow, afterwards}
 use Rattle.sums.proofs.Laws.{Eights, Hold, after-value, after-long, sum-holds, never-holds}
-use Rattle.lemmas.specs.Lemmas.{Lemma, START, sourceRows, newRows, predicate, range, aboveLow, belowHigh, negatedGoal, accepted}
+use Rattle.lemmas.specs.Lemmas.{Goal, CannotHappen, HoldsAfter, FailsAfter, NotBelow, NotAbove, Lemma, START, sourceRows, newRows, predicate, range, aboveLow, belowHigh, negatedGoal, accepted}
 use Rattle.lemmas.specs.LemmaGrammar.{goalAllowed, setsVariable, LemmaOk}
 use Rattle.lemmas.specs.Truth.{happens, Claim, True}
 use Rattle.lemmas.proofs.LemmaLaws.{sets-known}
@@ -185,13 +185,12 @@ module _ (p : Program) (ok : WellFormed p) where
       holds-after : (g : Row) → Refuted (afterwards (newRows p source) (negated g) ∷ []) → Holds g after
       holds-after g e = must-hold g after (cannot-after (negated g) e)
 
-      claimed : (g i : ℕ) → goalAllowed p source g i ≡ true → Refuted (negatedGoal p source g i) → Claim p g i after
-      claimed zero i a e = cannot [] tt e tt
-      claimed (suc zero) i a e = le-leZ (pos 0) (rowValue (predicate p i) after) (holds-after (predicate p i) e)
-      claimed (suc (suc zero)) i a e = fails (predicate p i) after (cannot-after (predicate p i) e)
-      claimed (suc (suc (suc zero))) i a e = low-holds p i after (set-below source i a) (holds-after (aboveLow p i) e)
-      claimed (suc (suc (suc (suc zero)))) i a e = high-holds p i after (set-below source i a) (holds-after (belowHigh p i) e)
-      claimed (suc (suc (suc (suc (suc g))))) i a e = false-true a
+      claimed : (g : Goal) (i : ℕ) → goalAllowed p source g i ≡ true → Refuted (negatedGoal p source g i) → Claim p g i after
+      claimed CannotHappen i a e = cannot [] tt e tt
+      claimed HoldsAfter i a e = le-leZ (pos 0) (rowValue (predicate p i) after) (holds-after (predicate p i) e)
+      claimed FailsAfter i a e = fails (predicate p i) after (cannot-after (predicate p i) e)
+      claimed NotBelow i a e = low-holds p i after (set-below source i a) (holds-after (aboveLow p i) e)
+      claimed NotAbove i a e = high-holds p i after (set-below source i a) (holds-after (belowHigh p i) e)
 
 pub accepted-true : (p : Program) → WellFormed p → (l : Lemma) → LemmaOk p l → accepted p l ≡ true → True p l
 accepted-true p ok l good e s inside premises enabled =

@@ -12,7 +12,7 @@
 use mathlib.Core.Path.{_≡_}
 use mathlib.Core.Bool.{Bool, true, false, cond, _&&_, _||_, not}
 use mathlib.Core.List.{List, [], _∷_}
-use Prim.Native.Nat.{ℕ, zero, suc, _+_, _*_, _^_, _≤_, _<_}
+use Prim.Native.Nat.{ℕ, _+_, _*_, _^_, _≤_, _<_}
 use lib.Dec.{eqb, ltb, leb}
 use lib.ListN.{length}
 use Rattle.words.specs.Words.{bits, payload, word, literalsOf, LEMMA, SETS, MULT}
@@ -26,7 +26,7 @@ use Rattle.grammar.specs.Grammar.{literalsAllowed, nothing}
 use Rattle.grammar.specs.Encoding.{concat}
 use Rattle.grammar.specs.WellFormed.{Each}
 use Rattle.runs.specs.Runs.{actionOf}
-use Rattle.lemmas.specs.Lemmas.{Lemma, START, rowsOf}
+use Rattle.lemmas.specs.Lemmas.{Goal, CannotHappen, HoldsAfter, FailsAfter, NotBelow, NotAbove, goalNumber, goalOf, Lemma, START, rowsOf}
 
 unfoldable pub setsVariable : List Assignment → ℕ → Bool
 setsVariable [] v = false
@@ -37,17 +37,18 @@ abbrev pub sourceAllowed : Program → ℕ → Bool
 sourceAllowed p source = eqb source START || ltb source (length (p .actions))
 
 -- Goal 0 has index 0; goals 1 and 2 need a predicate of that index. Goals 3 and 4 need an action that sets that variable.
-abbrev pub goalAllowed : Program → ℕ → ℕ → ℕ → Bool
-goalAllowed p source zero i = eqb i 0
-goalAllowed p source (suc zero) i = ltb i (length (p .predicates))
-goalAllowed p source (suc (suc zero)) i = ltb i (length (p .predicates))
-goalAllowed p source (suc (suc (suc zero))) i = setsVariable (actionOf p source .sets) i
-goalAllowed p source (suc (suc (suc (suc zero)))) i = setsVariable (actionOf p source .sets) i
-goalAllowed p source (suc (suc (suc (suc (suc g))))) i = false
+abbrev pub goalAllowed : Program → ℕ → Goal → ℕ → Bool
+goalAllowed p source CannotHappen i = eqb i 0
+goalAllowed p source HoldsAfter i = ltb i (length (p .predicates))
+goalAllowed p source FailsAfter i = ltb i (length (p .predicates))
+goalAllowed p source NotBelow i = setsVariable (actionOf p source .sets) i
+goalAllowed p source NotAbove i = setsVariable (actionOf p source .sets) i
 
--- LEMMA: source 27..20, goal 19..16, index 7..0
+-- LEMMA: source 27..20, goal 19..16, index 7..0; there are goals 0 to 4
 abbrev pub headAllowed : Program → ℕ → Bool
-headAllowed p w = eqb (bits 15 8 w) 0 && sourceAllowed p (bits 27 20 w) && goalAllowed p (bits 27 20 w) (bits 19 16 w) (bits 7 0 w)
+headAllowed p w =
+    eqb (bits 15 8 w) 0 && sourceAllowed p (bits 27 20 w)
+    && (leb (bits 19 16 w) 4 && goalAllowed p (bits 27 20 w) (goalOf (bits 19 16 w)) (bits 7 0 w))
 
 -- Its SETS obeys the rules of a forbidden combination; the start's premises must be empty.
 abbrev pub premisesAllowed : Program → ℕ → ℕ → Bool
@@ -60,7 +61,7 @@ multiplier = do
   pure (payload w)
 
 abbrev pub lemmaOf : ℕ → ℕ → List ℕ → Lemma
-lemmaOf w s ms = record { source = bits 27 20 w; goal = bits 19 16 w; index = bits 7 0 w; premises = literalsOf s; multipliers = ms }
+lemmaOf w s ms = record { source = bits 27 20 w; goal = goalOf (bits 19 16 w); index = bits 7 0 w; premises = literalsOf s; multipliers = ms }
 
 unfoldable pub lemma : Program → Bool → Reader Lemma
 lemma p room = do
@@ -90,7 +91,7 @@ abbrev pub encodeMultiplier : ℕ → List ℕ
 encodeMultiplier m = word MULT m ∷ []
 
 abbrev pub encodeLemma : Lemma → List ℕ
-encodeLemma l = word LEMMA (l .source * 2 ^ 20 + l .goal * 2 ^ 16 + l .index) ∷ word SETS (l .premises .0) ∷ concat encodeMultiplier (l .multipliers)
+encodeLemma l = word LEMMA (l .source * 2 ^ 20 + goalNumber (l .goal) * 2 ^ 16 + l .index) ∷ word SETS (l .premises .0) ∷ concat encodeMultiplier (l .multipliers)
 
 pub record LemmaOk (p : Program) (l : Lemma) : Type 0 where
   pub source : sourceAllowed p (l .source) ≡ true

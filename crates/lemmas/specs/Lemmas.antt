@@ -1,12 +1,14 @@
 -- Lemmas as plain values, the rows that each is about, and when it is accepted.
 --
+-- Goal             — what a lemma says of its index
+-- goalNumber, goalOf — a goal's number in a LEMMA word; the goal of a number
 -- Lemma            — source, goal and index, premises, multipliers
 -- START            — the source that stands for the start
 -- sourceRows       — the rows of the source
 -- newRows          — each variable's row afterwards
 -- predicate, range — of an index
 -- aboveLow, belowHigh — the rows of goals 3 and 4
--- negatedGoal      — the negated goal; none for goal 0
+-- negatedGoal      — the negated goal's row; none where the source cannot happen
 -- rowsOf           — the rows of a lemma, each with its multiplier
 -- total            — their sum
 -- largestOf, accepted — its largest value over the ranges; it is below 0
@@ -26,9 +28,33 @@ use Rattle.actions.specs.Results.{keepRows, assigned}
 use Rattle.runs.specs.Runs.{actionOf, literalRows}
 use Rattle.sums.specs.Sums.{combine, constRow, afterwards}
 
+-- 0 the source cannot happen; 1 predicate index holds afterwards; 2 it fails afterwards; 3 variable index is not below its low end
+-- afterwards; 4 not above its high end.
+pub data Goal : Type 0 where
+  CannotHappen : Goal
+  HoldsAfter : Goal
+  FailsAfter : Goal
+  NotBelow : Goal
+  NotAbove : Goal
+
+abbrev pub goalNumber : Goal → ℕ
+goalNumber CannotHappen = 0
+goalNumber HoldsAfter = 1
+goalNumber FailsAfter = 2
+goalNumber NotBelow = 3
+goalNumber NotAbove = 4
+
+-- of a number from 0 to 4: what is above is refused before
+abbrev pub goalOf : ℕ → Goal
+goalOf zero = CannotHappen
+goalOf (suc zero) = HoldsAfter
+goalOf (suc (suc zero)) = FailsAfter
+goalOf (suc (suc (suc zero))) = NotBelow
+goalOf (suc (suc (suc (suc n)))) = NotAbove
+
 pub record Lemma : Type 0 where
   pub source : ℕ
-  pub goal : ℕ
+  pub goal : Goal
   pub index : ℕ
   pub premises : Literals
   pub multipliers : List ℕ
@@ -58,14 +84,13 @@ aboveLow p v = record { coef = set (replicate 8 (pos 0)) v (pos 1); constant = n
 abbrev pub belowHigh : Program → ℕ → Row
 belowHigh p v = record { coef = set (replicate 8 (pos 0)) v (negsuc 0); constant = range p v .high }
 
--- 0 the source cannot happen; 1 predicate index holds afterwards; 2 it fails afterwards; 3 variable index is not below its low end
--- afterwards; 4 not above its high end. The goal is negated and then put through the assignments; of goal 2 the negation is the predicate itself.
-abbrev pub negatedGoal : Program → ℕ → ℕ → ℕ → List Row
-negatedGoal p source zero i = []
-negatedGoal p source (suc zero) i = afterwards (newRows p source) (negated (predicate p i)) ∷ []
-negatedGoal p source (suc (suc zero)) i = afterwards (newRows p source) (predicate p i) ∷ []
-negatedGoal p source (suc (suc (suc zero))) i = afterwards (newRows p source) (negated (aboveLow p i)) ∷ []
-negatedGoal p source (suc (suc (suc (suc g)))) i = afterwards (newRows p source) (negated (belowHigh p i)) ∷ []
+-- The goal is negated and then put through the assignments; the negation of "it fails" is the predicate itself.
+abbrev pub negatedGoal : Program → ℕ → Goal → ℕ → List Row
+negatedGoal p source CannotHappen i = []
+negatedGoal p source HoldsAfter i = afterwards (newRows p source) (negated (predicate p i)) ∷ []
+negatedGoal p source FailsAfter i = afterwards (newRows p source) (predicate p i) ∷ []
+negatedGoal p source NotBelow i = afterwards (newRows p source) (negated (aboveLow p i)) ∷ []
+negatedGoal p source NotAbove i = afterwards (newRows p source) (negated (belowHigh p i)) ∷ []
 
 -- One MULT each for: the negated goal, each premise by rising predicate, each row of the source.
 abbrev pub rowsOf : Program → Lemma → List Row

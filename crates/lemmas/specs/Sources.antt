@@ -31,7 +31,7 @@ use Rattle.programs.specs.Images.{imageOf, places}
 use Rattle.programs.specs.declared.Image.{Image}
 use Rattle.programs.specs.declared.Status.the-variants.{Ready, Failed}
 use Rattle.runs.specs.Runs.{has, actionOf}
-use Rattle.lemmas.specs.Lemmas.{Lemma, START, sourceRows, newRows}
+use Rattle.lemmas.specs.Lemmas.{goalNumber, Lemma, START, sourceRows, newRows}
 use Rattle.lemmas.specs.LemmaGrammar.{encodeLemma}
 use Rattle.lemmas.specs.declared.Source.{Source}
 use Rattle.lemmas.specs.declared.Shape.{Shape}
@@ -88,7 +88,7 @@ abbrev pub rowCount : ℕ → ℕ → ℕ → ℕ → ℕ
 rowCount goal preds set count = oneIf (not (eqb goal 0)) + (literalCount 0 preds set + count)
 
 abbrev pub lemmaRead : Read Lemma → LemmaRead
-lemmaRead (got l ws j) = record { source = l .source; goal = l .goal; index = l .index; premises = l .premises; next = At j }
+lemmaRead (got l ws j) = record { source = l .source; goal = goalNumber (l .goal); index = l .index; premises = l .premises; next = At j }
 lemmaRead (refused x) = record { source = 0; goal = 0; index = 0; premises = noLiterals; next = Stopped x }
 
 abbrev pub noBegins : Refusal → Begins

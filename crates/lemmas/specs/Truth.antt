@@ -6,23 +6,23 @@
 use mathlib.Core.Path.{_≡_}
 use mathlib.Core.Bool.{Bool, true, false}
 use mathlib.Core.List.{List}
-use Prim.Native.Nat.{ℕ, zero, suc}
+use Prim.Native.Nat.{ℕ}
 use lib.IntN.{ℤ, pos}
 use lib.Signed.{_≤ℤ_}
 use lib.ListN.{getD}
 use Rattle.grammar.specs.Programs.{Program}
 use Rattle.runs.specs.Runs.{holds, allHold, Inside, newState, actionOf, meets}
-use Rattle.lemmas.specs.Lemmas.{Lemma, sourceRows, predicate, range}
+use Rattle.lemmas.specs.Lemmas.{Goal, CannotHappen, HoldsAfter, FailsAfter, NotBelow, NotAbove, Lemma, sourceRows, predicate, range}
 
 abbrev pub happens : Program → ℕ → List ℤ → Bool
 happens p source s = allHold (sourceRows p source) s
 
-abbrev pub Claim : Program → ℕ → ℕ → List ℤ → Type 0
-Claim p zero i t = ⊥
-Claim p (suc zero) i t = holds (predicate p i) t ≡ true
-Claim p (suc (suc zero)) i t = holds (predicate p i) t ≡ false
-Claim p (suc (suc (suc zero))) i t = range p i .low ≤ℤ getD t i (pos 0)
-Claim p (suc (suc (suc (suc g)))) i t = getD t i (pos 0) ≤ℤ range p i .high
+abbrev pub Claim : Program → Goal → ℕ → List ℤ → Type 0
+Claim p CannotHappen i t = ⊥
+Claim p HoldsAfter i t = holds (predicate p i) t ≡ true
+Claim p FailsAfter i t = holds (predicate p i) t ≡ false
+Claim p NotBelow i t = range p i .low ≤ℤ getD t i (pos 0)
+Claim p NotAbove i t = getD t i (pos 0) ≤ℤ range p i .high
 
 -- Of every state in the ranges that meets the premises and at which the source may happen, the goal is true of what the assignments give.
 abbrev pub True : Program → Lemma → Type 0

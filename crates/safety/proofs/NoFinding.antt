@@ -12,7 +12,7 @@ use Rattle.grammar.specs.Programs.{Assignment, Action, Program}
 use Rattle.grammar.specs.WellFormed.{Each}
 use Rattle.programs.proofs.Places.{noneAction}
 use Rattle.runs.specs.Runs.{actionOf, someMet, forbidden}
-use Rattle.lemmas.specs.Lemmas.{Lemma}
+use Rattle.lemmas.specs.Lemmas.{Goal, NotBelow, NotAbove, Lemma}
 use Rattle.formula.specs.Formula.{Literal}
 use Rattle.search.specs.Search.{Graph, count}
 use Rattle.abstraction.specs.Abstraction.{literalsIn, applies, successor}
@@ -38,19 +38,19 @@ forbids-none p s k m b (c ∷ cs) h e =
     rw (not-met p s c m h (unless-none x (Forbid k b) first)) (forbids-none p s k m (suc b) cs h rest)
 
 -- both ends of a variable are shown
-abbrev pub Ends : (ℕ → ℕ → Bool) → ℕ → Type 0
-Ends shows v = (shows 3 v ≡ true) × (shows 4 v ≡ true)
+abbrev pub Ends : (Goal → ℕ → Bool) → ℕ → Type 0
+Ends shows v = (shows NotBelow v ≡ true) × (shows NotAbove v ≡ true)
 
-ends-none : (shows : ℕ → ℕ → Bool) (k j : ℕ) (ss : List Assignment) → ends shows k j ss ≡ [] → Each (λ x. Ends shows (x .variable)) ss
+ends-none : (shows : Goal → ℕ → Bool) (k j : ℕ) (ss : List Assignment) → ends shows k j ss ≡ [] → Each (λ x. Ends shows (x .variable)) ss
 unfolding ends
 ends-none shows k j [] e = tt
 ends-none shows k j (x ∷ ss) e =
     let v = x .variable in
-    let low = unless (shows 3 v) (RunOff k j v false) in
-    let high = unless (shows 4 v) (RunOff k j v true) in
+    let low = unless (shows NotBelow v) (RunOff k j v false) in
+    let high = unless (shows NotAbove v) (RunOff k j v true) in
     let (a, more) = none-split low (high ++ ends shows k j ss) e in
     let (b, rest) = none-split high (ends shows k j ss) more in
-    ((unless-none (shows 3 v) (RunOff k j v false) a, unless-none (shows 4 v) (RunOff k j v true) b), ends-none shows k j ss rest)
+    ((unless-none (shows NotBelow v) (RunOff k j v false) a, unless-none (shows NotAbove v) (RunOff k j v true) b), ends-none shows k j ss rest)
 
 module _ (p : Program) (ls : List Lemma) (g : Graph) where
   abbrev linked : ℕ → ℕ → Bool

@@ -13,9 +13,10 @@ use Rattle.integers.proofs.Tests.{and-true, or-true, false-true}
 use Rattle.grammar.specs.Programs.{Program}
 use Rattle.grammar.specs.WellFormed.{Each, WellFormed}
 use Rattle.runs.specs.Runs.{Inside, newState, actionOf}
-use Rattle.lemmas.specs.Lemmas.{Lemma, predicate, accepted}
+use Rattle.lemmas.specs.Lemmas.{Goal, CannotHappen, HoldsAfter, FailsAfter, goalNumber, Lemma, predicate, accepted}
 use Rattle.lemmas.specs.LemmaGrammar.{LemmaOk}
 use Rattle.lemmas.specs.Truth.{happens, Claim}
+use Rattle.lemmas.proofs.LemmaLaws.{same-goal}
 use Rattle.lemmas.proofs.Sound.{accepted-true}
 use Rattle.formula.specs.Formula.{Literal, B, NotB, Monomial, False, And, Fact, Then, and, conjunct, conjuncts}
 use Rattle.abstraction.specs.Abstraction.{literalsIn, allAmong, lemmaApplies, applies, shown, successor}
@@ -56,11 +57,11 @@ module _ (p : Program) (ok : WellFormed p) (s : List ℤ) (inside : Inside p s) 
   abbrev after : List ℤ
   after = newState (actionOf p source) s
 
-  lemma-claims : (l : Lemma) → LemmaOk p l → (goal index : ℕ) → lemmaApplies p source exp goal index l ≡ true → Claim p goal index after
+  lemma-claims : (l : Lemma) → LemmaOk p l → (goal : Goal) (index : ℕ) → lemmaApplies p source exp goal index l ≡ true → Claim p goal index after
   lemma-claims l good goal index e =
       let a = accepted p l in
       let b = eqb (l .source) source in
-      let c = eqb (l .goal) goal in
+      let c = eqb (goalNumber (l .goal)) (goalNumber goal) in
       let d = eqb (l .index) index in
       let premises = literalsIn 14 (l .premises .0) in
       let (e₁, all) = and-true (a && b && c && d) (allAmong premises exp) e in
@@ -68,13 +69,13 @@ module _ (p : Program) (ok : WellFormed p) (s : List ℤ) (inside : Inside p s) 
       let (e₃, goal-is) = and-true (a && b) c e₂ in
       let (yes-accepted, source-is) = and-true a b e₃ in
       let same = eqb-true (l .source) source source-is in
-      rw (same, eqb-true (l .goal) goal goal-is, eqb-true (l .index) index index-is) at
+      rw (same, same-goal (l .goal) goal (eqb-true (goalNumber (l .goal)) (goalNumber goal) goal-is), eqb-true (l .index) index index-is) at
       (accepted-true p ok l good yes-accepted s inside
       (met p s (l .premises) (ok .predicates .few) (all-among-each (TrueAt p s) premises exp true-there all))
       (rw same may))
 
   -- what an applying lemma of the list claims
-  pub claims : (ls : List Lemma) → Each (LemmaOk p) ls → (goal index : ℕ) → applies p ls source exp goal index ≡ true → Claim p goal index after
+  pub claims : (ls : List Lemma) → Each (LemmaOk p) ls → (goal : Goal) (index : ℕ) → applies p ls source exp goal index ≡ true → Claim p goal index after
   unfolding applies
   claims [] good goal index e = false-true e
   claims (l ∷ ls) good goal index e =
@@ -83,5 +84,5 @@ module _ (p : Program) (ok : WellFormed p) (s : List ℤ) (inside : Inside p s) 
   -- the successor is true of the state afterwards
   pub successor-true : (ls : List Lemma) → Each (LemmaOk p) ls → Describes p after (successor p ls source exp)
   successor-true ls good =
-      describes-unless p after (applies p ls source exp 0 0) (conjuncts (shown p ls source exp) (length (p .predicates))) (claims ls good 0 0)
-      (describes-conjuncts p after (shown p ls source exp) (λ j. (claims ls good 1 j, claims ls good 2 j)) (length (p .predicates)) (omega arith))
+      describes-unless p after (applies p ls source exp CannotHappen 0) (conjuncts (shown p ls source exp) (length (p .predicates))) (claims ls good CannotHappen 0)
+      (describes-conjuncts p after (shown p ls source exp) (λ j. (claims ls good HoldsAfter j, claims ls good FailsAfter j)) (length (p .predicates)) (omega arith))

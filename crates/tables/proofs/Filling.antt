@@ -16,7 +16,7 @@ use Rattle.rows.specs.declared.Exact.the-variants.{Value, Off}
 use Rattle.rows.specs.Rows.{in64, exact}
 use Rattle.grammar.specs.Programs.{Program}
 use Rattle.grammar.specs.WellFormed.{WellFormed}
-use Rattle.lemmas.specs.Lemmas.{Lemma, largestOf, accepted}
+use Rattle.lemmas.specs.Lemmas.{goalNumber, Lemma, largestOf, accepted}
 use Rattle.lemmas.specs.Sources.{oneIf}
 use Rattle.ask.specs.Calls.{noLemma}
 use Rattle.ask.specs.Weighing.{theLemma}
@@ -124,8 +124,8 @@ module _ (p : Program) (ok : WellFormed p) (ws begin : List ℕ) (count : ℕ) (
             let same-lemma = b .here k l .1 in
             let c = fields p ok ws place (b .here k l .0) in
             let premises-is : premises ≡ here .premises .0 = ep ∙ c .3 ∙ ap (λ (m : Lemma). m .premises .0) same-lemma in
-            let key-is : key ≡ here .source * 64 + placeOf (here .goal) (here .index) =
-            ek ∙ rw (c .0, c .1, c .2) (ap (λ (m : Lemma). m .source * 64 + placeOf (m .goal) (m .index)) same-lemma) in
+            let key-is : key ≡ here .source * 64 + placeOf (goalNumber (here .goal)) (here .index) =
+            ek ∙ rw (c .0, c .1, c .2) (ap (λ (m : Lemma). m .source * 64 + placeOf (goalNumber (m .goal)) (m .index)) same-lemma) in
             let more-is : more ≡ oneIf (accepted p here) = em ∙ ap (λ (y : ℤ). oneIf (ltZ y (pos 0))) s in
             record {
               within = omega (arith, known);

@@ -17,13 +17,13 @@ use Rattle.grammar.specs.Programs.{Assignment, Action, Program}
 use Rattle.grammar.specs.WellFormed.{Rising, WellFormed}
 use Rattle.actions.specs.Results.{marked, noMarks}
 use Rattle.runs.specs.Runs.{has, actionOf}
-use Rattle.lemmas.specs.Lemmas.{Lemma}
+use Rattle.lemmas.specs.Lemmas.{Goal, NotBelow, NotAbove, goalNumber, Lemma}
 use Rattle.lemmas.specs.LemmaGrammar.{setsVariable}
 use Rattle.lemmas.proofs.LemmaLaws.{action-rising}
-use Rattle.lemmas.proofs.HeadLaws.{goal-by}
+use Rattle.lemmas.proofs.HeadLaws.{marks-of}
 use Rattle.sets.specs.Sets.{Member}
 use Rattle.sets.proofs.Bits.{bit-zero}
-use Rattle.gather.specs.Gathering.{Goal, low-end, high-end, Entry, placeOf, gathered, successorOf, askEnds, firstMissing}
+use Rattle.gather.specs.Gathering.{Placed, low-end, high-end, Entry, placeOf, gathered, successorOf, askEnds, firstMissing}
 use Rattle.gather.proofs.Shown.{never, ask-is, missing-is}
 use Rattle.search.proofs.Count.{lt-or-le, eq-or-ne}
 use Rattle.abstraction.specs.Abstraction.{literalsIn, applies}
@@ -89,20 +89,20 @@ rising-within vars v (s ∷ ss) u r e =
     (λ q. let (a, b) = rising-within vars (suc (s .variable)) ss u (r .1) q in (omega arith, b)) (or-true (eqb (s .variable) u) (setsVariable ss u) e)
 
 -- a place of m, missing
-Miss : (ℕ → ℕ → Bool) → List Assignment → ℕ → Type 0
-Miss shows ss m = (u : ℕ) × (setsVariable ss u ≡ true) × (((m ≡ placeOf 3 u) × (shows 3 u ≡ false)) ⊎ ((m ≡ placeOf 4 u) × (shows 4 u ≡ false)))
+Miss : (Goal → ℕ → Bool) → List Assignment → ℕ → Type 0
+Miss shows ss m = (u : ℕ) × (setsVariable ss u ≡ true) × (((m ≡ placeOf 3 u) × (shows NotBelow u ≡ false)) ⊎ ((m ≡ placeOf 4 u) × (shows NotAbove u ≡ false)))
 
-record Missing (shows : ℕ → ℕ → Bool) (ss : List Assignment) (m : ℕ) : Type 0 where
-  pub below : (u : ℕ) → setsVariable ss u ≡ true → (placeOf 3 u < m → shows 3 u ≡ true) × (placeOf 4 u < m → shows 4 u ≡ true)
+record Missing (shows : Goal → ℕ → Bool) (ss : List Assignment) (m : ℕ) : Type 0 where
+  pub below : (u : ℕ) → setsVariable ss u ≡ true → (placeOf 3 u < m → shows NotBelow u ≡ true) × (placeOf 4 u < m → shows NotAbove u ≡ true)
   pub at : m < 64 → Miss shows ss m
 
-module _ (shows : ℕ → ℕ → Bool) (k j m vars : ℕ) (few : vars ≤ 8) (rest : List Finding) where
+module _ (shows : Goal → ℕ → Bool) (k j m vars : ℕ) (few : vars ≤ 8) (rest : List Finding) where
   -- what is found, of an action's assignments
   Finds : List Assignment → Type 0
   Finds ss = foundOf (ends shows k j ss ++ rest) ≡ endAt k j m (foundOf rest)
 
   module _ (s : Assignment) (ss : List Assignment) (v : ℕ) (r : Rising vars v (s ∷ ss)) (f : Missing shows (s ∷ ss) m) (more : Missing shows ss m → Finds ss) where
-    first-shown : (placeOf 3 (s .variable) < m → shows 3 (s .variable) ≡ true) × (placeOf 4 (s .variable) < m → shows 4 (s .variable) ≡ true)
+    first-shown : (placeOf 3 (s .variable) < m → shows NotBelow (s .variable) ≡ true) × (placeOf 4 (s .variable) < m → shows NotAbove (s .variable) ≡ true)
     unfolding setsVariable
     first-shown = f .below (s .variable) (rw (eq-eqb (s .variable) (s .variable) refl) refl)
 
@@ -113,7 +113,7 @@ module _ (shows : ℕ → ℕ → Bool) (k j m vars : ℕ) (few : vars ≤ 8) (r
         (more (record { below = λ x e. f .below x (or-right (eqb (s .variable) x) (setsVariable ss x) e); at = at }))
 
     -- m is an end of the first variable
-    stops : m < 64 → ((m ≡ placeOf 3 (s .variable)) × (shows 3 (s .variable) ≡ false)) ⊎ ((m ≡ placeOf 4 (s .variable)) × (shows 4 (s .variable) ≡ false)) → Finds (s ∷ ss)
+    stops : m < 64 → ((m ≡ placeOf 3 (s .variable)) × (shows NotBelow (s .variable) ≡ false)) ⊎ ((m ≡ placeOf 4 (s .variable)) × (shows NotAbove (s .variable) ≡ false)) → Finds (s ∷ ss)
     unfolding ends Finds
     stops lt end =
         let below = r .0 .below in
@@ -142,12 +142,12 @@ module _ (shows : ℕ → ℕ → Bool) (k j m vars : ℕ) (few : vars ≤ 8) (r
 
 -- ---- an action of a program at a node
 module _ (p : Program) (ls : List Lemma) (es : List Entry) (good : WellFormed p)
-    (applying : (source set goal index : ℕ) → Goal goal index → has (placeOf goal index) (gathered source set es) ≡ applies p ls source (literalsIn 14 set) goal index)
+    (applying : (source set : ℕ) (goal : Goal) (index : ℕ) → Placed (goalNumber goal) index → has (placeOf (goalNumber goal) index) (gathered source set es) ≡ applies p ls source (literalsIn 14 set) goal index)
     (set k j : ℕ) where
   abbrev sets-of : List Assignment
   sets-of = actionOf p j .sets
 
-  abbrev shows : ℕ → ℕ → Bool
+  abbrev shows : Goal → ℕ → Bool
   shows = applies p ls j (literalsIn 14 set)
 
   abbrev shown : ℕ
@@ -162,19 +162,19 @@ module _ (p : Program) (ls : List Lemma) (es : List Entry) (good : WellFormed p)
       let asked = endsOf (actionOf p j) in
       let m = firstMissing asked shown in
       let few = good .ranges .few in
-      let marks-are = goal-by p good j 3 in
+      let marks-are = marks-of p good j in
       let (before, at) = missing-is asked shown in
       let small : (u : ℕ) → setsVariable sets-of u ≡ true → u < 8 = λ u e. omega (arith, rising-within (length (p .ranges)) 0 sets-of u rising e) in
       record {
         below = λ u e. (
-          λ l. sym (applying j set 3 u (low-end (small u e))) ∙ eq-eqb _ 1 (before (placeOf 3 u) l (asked-is (marked noMarks sets-of) 8 (placeOf 3 u) .1 (u, small u e, marks-are u ∙ e, inl refl))),
-          λ l. sym (applying j set 4 u (high-end (small u e))) ∙ eq-eqb _ 1 (before (placeOf 4 u) l (asked-is (marked noMarks sets-of) 8 (placeOf 4 u) .1 (u, small u e, marks-are u ∙ e, inr refl))),
+          λ l. sym (applying j set NotBelow u (low-end (small u e))) ∙ eq-eqb _ 1 (before (placeOf 3 u) l (asked-is (marked noMarks sets-of) 8 (placeOf 3 u) .1 (u, small u e, marks-are u ∙ e, inl refl))),
+          λ l. sym (applying j set NotAbove u (high-end (small u e))) ∙ eq-eqb _ 1 (before (placeOf 4 u) l (asked-is (marked noMarks sets-of) 8 (placeOf 4 u) .1 (u, small u e, marks-are u ∙ e, inr refl))),
         );
         at = λ l. let (u, h, e, s) = asked-is (marked noMarks sets-of) 8 m .0 (at l .0) in (
           u,
           sym (marks-are u) ∙ e,
-          ⊎-elim (λ q. inl (q, sym (applying j set 3 u (low-end h)) ∙ ne-eqb _ 1 (λ z. at l .1 (rw q z))))
-              (λ q. inr (q, sym (applying j set 4 u (high-end h)) ∙ ne-eqb _ 1 (λ z. at l .1 (rw q z)))) s,
+          ⊎-elim (λ q. inl (q, sym (applying j set NotBelow u (low-end h)) ∙ ne-eqb _ 1 (λ z. at l .1 (rw q z))))
+              (λ q. inr (q, sym (applying j set NotAbove u (high-end h)) ∙ ne-eqb _ 1 (λ z. at l .1 (rw q z)))) s,
         );
       }
 

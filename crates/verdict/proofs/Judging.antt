@@ -18,9 +18,9 @@ use Rattle.grammar.specs.Programs.{Action, Program}
 use Rattle.programs.specs.declared.Image.{Image}
 use Rattle.programs.proofs.Places.{noneAction}
 use Rattle.runs.specs.Runs.{has}
-use Rattle.lemmas.specs.Lemmas.{Lemma}
+use Rattle.lemmas.specs.Lemmas.{Goal, goalNumber, Lemma}
 use Rattle.lemmas.specs.Sources.{theProgram, Held}
-use Rattle.gather.specs.Gathering.{Goal, Entry, Table, placeOf, gathered, successorOf, firstMissing}
+use Rattle.gather.specs.Gathering.{Placed, Entry, Table, placeOf, gathered, successorOf, firstMissing}
 use Rattle.search.specs.Search.{Graph, Done, count, nodeWord}
 use Rattle.records.specs.Records.{graphWords, recordPlace, graphList}
 use Rattle.records.proofs.Listed.{record-at}
@@ -159,7 +159,7 @@ module _ (p : Program) (ls : List Lemma) (g : Graph) (nodes : ℕ) where
 
 -- ---- a graph of a program that has been read
 pub judged : {ws : List ℕ} {image : Image} → Held ws image → {ls : List Lemma} {es : List Entry}
-    → ((source set goal index : ℕ) → Goal goal index → has (placeOf goal index) (gathered source set es) ≡ applies (theProgram ws) ls source (literalsIn 14 set) goal index)
+    → ((source set : ℕ) (goal : Goal) (index : ℕ) → Placed (goalNumber goal) index → has (placeOf (goalNumber goal) index) (gathered source set es) ≡ applies (theProgram ws) ls source (literalsIn 14 set) goal index)
     → ((source set : ℕ) → given (successorOf (gathered source set es)) ≡ hasNext (successor (theProgram ws) ls source (literalsIn 14 set))) → {g : Graph}
     → {l : List ℕ} (l₀ : List ℕ) → l ≡ graphList (image .actions) (Done g) l₀
     → Judging (theProgram ws) ls g es (image .literals) (image .forbidden) (askedEnds (theProgram ws)) (image .actions) l

@@ -17,7 +17,7 @@ use lib.ListN.{length, drop, replicate}
 use Rattle.words.specs.Words.{word}
 use Rattle.words.specs.declared.Literals.{Literals}
 use Rattle.grammar.specs.Programs.{Assignment, Action, Program}
-use Rattle.lemmas.specs.Lemmas.{Lemma}
+use Rattle.lemmas.specs.Lemmas.{Goal, NotBelow, NotAbove, Lemma}
 use Rattle.formula.specs.Formula.{Literal, B, NotB, Monomial, False, And}
 use Rattle.search.specs.Search.{Graph, count}
 use Rattle.search.specs.Paths.{path}
@@ -48,10 +48,10 @@ forbids k m b [] = []
 forbids k m b (c ∷ cs) = unless (contradicted (literalsIn 14 (c .0)) m) (Forbid k b) ++ forbids k m (suc b) cs
 
 -- Each variable that the action sets, low end before high: no applying lemma gives may run off.
-unfoldable pub ends : (ℕ → ℕ → Bool) → ℕ → ℕ → List Assignment → List Finding
+unfoldable pub ends : (Goal → ℕ → Bool) → ℕ → ℕ → List Assignment → List Finding
 ends shows k j [] = []
 ends shows k j (s ∷ ss) =
-    unless (shows 3 (s .variable)) (RunOff k j (s .variable) false) ++ (unless (shows 4 (s .variable)) (RunOff k j (s .variable) true) ++ ends shows k j ss)
+    unless (shows NotBelow (s .variable)) (RunOff k j (s .variable) false) ++ (unless (shows NotAbove (s .variable)) (RunOff k j (s .variable) true) ++ ends shows k j ss)
 
 abbrev pub hasNext : Monomial → Bool
 hasNext False = false

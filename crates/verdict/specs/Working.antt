@@ -23,9 +23,9 @@ use Rattle.grammar.specs.Programs.{Action, Program}
 use Rattle.grammar.specs.WellFormed.{WellFormed}
 use Rattle.actions.specs.Results.{marked, noMarks}
 use Rattle.runs.specs.Runs.{has}
-use Rattle.lemmas.specs.Lemmas.{Lemma}
+use Rattle.lemmas.specs.Lemmas.{Goal, goalNumber, Lemma}
 use Rattle.sets.specs.Sets.{clashes}
-use Rattle.gather.specs.Gathering.{Goal, Entry, placeOf, gathered, successorOf, askEnds, firstMissing}
+use Rattle.gather.specs.Gathering.{Placed, Entry, placeOf, gathered, successorOf, askEnds, firstMissing}
 use Rattle.gather.specs.declared.Successor.{Successor}
 use Rattle.gather.specs.declared.Successor.the-variants.{Set}
 use Rattle.gather.specs.declared.Successor.the-variants.{Nothing as NoSet}
@@ -112,5 +112,6 @@ pub record Judging (p : Program) (ls : List Lemma) (g : Graph) (es : List Entry)
   pub ends : asked ≡ askedEnds p
   pub action-count : actions ≡ length (p .actions)
   pub listed : (l₀ : List ℕ) × (l ≡ graphList actions (Done g) l₀)
-  pub applying : (source set goal index : ℕ) → Goal goal index → has (placeOf goal index) (gathered source set es) ≡ applies p ls source (literalsIn 14 set) goal index
+  pub applying : (source set : ℕ) (goal : Goal) (index : ℕ) → Placed (goalNumber goal) index
+      → has (placeOf (goalNumber goal) index) (gathered source set es) ≡ applies p ls source (literalsIn 14 set) goal index
   pub leading : (source set : ℕ) → given (successorOf (gathered source set es)) ≡ hasNext (successor p ls source (literalsIn 14 set))
