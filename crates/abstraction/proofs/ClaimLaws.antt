@@ -11,7 +11,7 @@ use borrow.Author.Tests.{eqb-true, eq-eqb, ltb-true}
 use Rattle.integers.proofs.Tests.{and-true}
 use Rattle.grammar.specs.Programs.{Program}
 use Rattle.grammar.specs.WellFormed.{Each, WellFormed}
-use Rattle.runs.specs.Runs.{has, actionOf}
+use Rattle.runs.specs.Runs.{actionOf}
 use Rattle.lemmas.specs.Lemmas.{Goal, CannotHappen, HoldsAfter, FailsAfter, NotBelow, NotAbove, goalNumber, Lemma, accepted}
 use Rattle.lemmas.specs.LemmaGrammar.{setsVariable, goalAllowed, LemmaOk}
 use Rattle.lemmas.proofs.LemmaLaws.{same-goal, sets-known, action-rising}
@@ -19,7 +19,8 @@ use Rattle.sets.specs.Sets.{bitOf}
 use Rattle.gather.specs.Gathering.{Claim, placeOf, Placed, cannot, holds, fails, low-end, high-end, Sound, entryOf, gathered, Some}
 use Rattle.gather.proofs.Shown.{never, Shows, shown-by}
 use Rattle.integers.proofs.Tests.{or-cases}
-use Rattle.abstraction.specs.Abstraction.{literalsIn, allAmong, lemmaApplies, applies}
+use Rattle.words.specs.LiteralSets.{literalsIn, has}
+use Rattle.abstraction.specs.Abstraction.{allAmong, lemmaApplies, applies}
 use Rattle.abstraction.specs.Claims.{claimOf, withClaim, claims}
 use Rattle.abstraction.proofs.Literals.{subset-is}
 

@@ -11,7 +11,8 @@ use Rattle.grammar.specs.Programs.{Program}
 use Rattle.grammar.specs.WellFormed.{Each, WellFormed}
 use Rattle.lemmas.specs.Lemmas.{Lemma}
 use Rattle.lemmas.specs.LemmaGrammar.{LemmaOk}
-use Rattle.formula.specs.Formula.{Literal, Monomial, False, And}
+use Rattle.words.specs.LiteralSets.{Literal}
+use Rattle.formula.specs.Formula.{Monomial, False, And}
 use Rattle.search.specs.Search.{Answer, To, None, Origin, Root, From, Graph, Result, Done, Over, seek, count, nodeWord, origin, edge}
 use Rattle.search.proofs.Reach.{Distinct, AllOf, Many}
 use Rattle.search.proofs.Count.{lt-or-le, row-below, seek-found}

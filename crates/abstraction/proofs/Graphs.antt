@@ -10,7 +10,6 @@ use borrow.Author.Tests.{eqb-true, eq-eqb, ltb-true}
 use Rattle.words.specs.Words.{payload}
 use Rattle.grammar.specs.Programs.{Program}
 use Rattle.grammar.specs.WellFormed.{Each, WellFormed}
-use Rattle.runs.specs.Runs.{has}
 use Rattle.lemmas.specs.Lemmas.{Goal, CannotHappen, HoldsAfter, FailsAfter, Lemma, START}
 use Rattle.lemmas.specs.LemmaGrammar.{goalAllowed, LemmaOk}
 use Rattle.sets.specs.Sets.{bitOf, Member, apart}
@@ -21,12 +20,13 @@ use Rattle.gather.specs.declared.Successor.{Successor}
 use Rattle.gather.specs.declared.Successor.the-variants.{Nothing, Set}
 use Rattle.gather.proofs.Shown.{never}
 use Rattle.gather.proofs.Successors.{successor-set}
-use Rattle.formula.specs.Formula.{B, NotB, Monomial, False, And, Fact, Disabled, Then, and, conjunct, conjuncts, formula3}
+use Rattle.words.specs.LiteralSets.{B, NotB, literalIf, literalsIn, setOf, has}
+use Rattle.formula.specs.Formula.{Monomial, False, And, Fact, Disabled, Then, and, conjunct, conjuncts, formula3}
 use Rattle.search.specs.Search.{explored}
 use Rattle.search.proofs.Count.{lt-or-le}
 use Rattle.records.specs.Records.{mostNodes}
 use Rattle.graph.specs.Graph.{answerOf, startOf, graphOf}
-use Rattle.abstraction.specs.Abstraction.{literalIf, literalsIn, applies, shown, successor, start, setOf, answer, graph}
+use Rattle.abstraction.specs.Abstraction.{applies, shown, successor, start, answer, graph}
 use Rattle.abstraction.specs.Claims.{claims}
 use Rattle.abstraction.proofs.Literals.{set-literals, literals-mod}
 use Rattle.abstraction.proofs.ClaimLaws.{applied-allowed, applies-is}

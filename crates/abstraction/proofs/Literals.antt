@@ -10,12 +10,11 @@ use borrow.Author.Tests.{eqb-true, eqb-false, eq-eqb}
 use Rattle.integers.proofs.Tests.{and-true}
 use Rattle.sets.specs.Sets.{bitOf, Member, Subset}
 use Rattle.sets.proofs.Bits.{bit-lt, bit-shr, bit-mod}
-use Rattle.runs.specs.Runs.{has}
-use Rattle.formula.specs.Formula.{Literal, B, NotB}
+use Rattle.words.specs.LiteralSets.{Literal, B, NotB, has, literalIf, literalsIn, setOf}
 use Rattle.search.proofs.Count.{lt-or-le}
 use Rattle.gather.proofs.Shown.{never}
 use Rattle.integers.proofs.Tests.{or-cases}
-use Rattle.abstraction.specs.Abstraction.{literalIf, literalsIn, sameLiteral, among, allAmong, setOf}
+use Rattle.abstraction.specs.Abstraction.{sameLiteral, among, allAmong}
 
 -- ---- the tests are membership
 same-is : (l m : Literal) → (sameLiteral l m ≡ true) ↔ (l ≡ m)

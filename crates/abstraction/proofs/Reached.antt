@@ -12,11 +12,12 @@ use Rattle.lemmas.specs.Lemmas.{Lemma, START}
 use Rattle.lemmas.specs.LemmaGrammar.{LemmaOk}
 use Rattle.gather.specs.declared.Successor.{Successor}
 use Rattle.gather.specs.declared.Successor.the-variants.{Nothing, Set}
-use Rattle.formula.specs.Formula.{Literal, Monomial, False, And, at-start, after}
+use Rattle.words.specs.LiteralSets.{Literal, literalsIn, setOf}
+use Rattle.formula.specs.Formula.{Monomial, False, And, at-start, after}
 use Rattle.search.specs.Search.{To}
 use Rattle.search.proofs.Reach.{Reach, first, onward}
 use Rattle.search.proofs.Theorem.{to-inj, not-none}
-use Rattle.abstraction.specs.Abstraction.{literalsIn, successor, start, setOf, answer}
+use Rattle.abstraction.specs.Abstraction.{successor, start, answer}
 use Rattle.abstraction.specs.Faithful.{ReachableIn}
 use Rattle.abstraction.proofs.Literals.{set-literals, literals-mod}
 use Rattle.abstraction.proofs.Graphs.{monomialOf, here, successor-is}

@@ -10,10 +10,11 @@ use lib.Seq.{ext-getD}
 use Rattle.words.specs.Words.{word, SETS}
 use Rattle.grammar.specs.Programs.{Program}
 use Rattle.lemmas.specs.Lemmas.{Lemma}
-use Rattle.formula.specs.Formula.{Literal, Monomial, False, And}
+use Rattle.words.specs.LiteralSets.{Literal, setOf}
+use Rattle.formula.specs.Formula.{Monomial, False, And}
 use Rattle.search.specs.Search.{Answer, To, None, Origin, Root, From, Graph, count, origin, edge}
 use Rattle.search.proofs.Count.{lt-or-le, eq-or-ne, same-place}
-use Rattle.abstraction.specs.Abstraction.{successor, start, setOf}
+use Rattle.abstraction.specs.Abstraction.{successor, start}
 use Rattle.abstraction.specs.Faithful.{literalsAt, Leads, FoundFirst, FoundBefore, Faithful}
 use Rattle.abstraction.proofs.Order.{earlier-below, below-earlier}
 

@@ -1,33 +1,23 @@
 -- The abstract state graph of a program and a lemma list: formula (3) read with "an accepted lemma of the list shows it", and its exploration.
 --
--- literalsIn — the literals of a set, by rising predicate
 -- sameLiteral, among, allAmong — a literal is one of some; all of some are
 -- lemmaApplies, applies — a lemma applies at an abstract state, for a source, a goal and an index; some lemma of the list does
 -- shown      — the facts that the list shows
 -- successor  — formula (3) for an action; start, for the start
--- setOf      — a conjunction of literals as a set
 -- answer     — a monomial as the search has it: a node's word is its SETS word
 -- graph      — the graph, or that there are too many nodes
-use mathlib.Core.Bool.{Bool, true, false, cond, _&&_, _||_}
-use mathlib.Core.List.{List, [], _∷_, _++_}
-use Prim.Native.Nat.{ℕ, zero, suc, _+_, _^_}
+use mathlib.Core.Bool.{Bool, true, false, _&&_, _||_}
+use mathlib.Core.List.{List, [], _∷_}
+use Prim.Native.Nat.{ℕ}
 use lib.Dec.{eqb}
 use lib.ListN.{length}
 use Rattle.words.specs.Words.{payload, word, SETS}
 use Rattle.grammar.specs.Programs.{Program}
-use Rattle.runs.specs.Runs.{has}
 use Rattle.lemmas.specs.Lemmas.{Goal, CannotHappen, HoldsAfter, FailsAfter, goalNumber, Lemma, START, accepted}
-use Rattle.formula.specs.Formula.{Literal, B, NotB, Monomial, False, And, Fact, Disabled, Then, formula3}
+use Rattle.words.specs.LiteralSets.{Literal, B, NotB, literalsIn, setOf}
+use Rattle.formula.specs.Formula.{Monomial, False, And, Fact, Disabled, Then, formula3}
 use Rattle.search.specs.Search.{Answer, To, None, Result, explored}
 use Rattle.records.specs.Records.{mostNodes}
-
-abbrev pub literalIf : Bool → Literal → List Literal
-literalIf b l = cond b (l ∷ []) []
-
--- of the predicates below n
-unfoldable pub literalsIn : ℕ → ℕ → List Literal
-literalsIn zero set = []
-literalsIn (suc n) set = literalsIn n set ++ (literalIf (has n set) (B n) ++ literalIf (has (14 + n) set) (NotB n))
 
 abbrev pub sameLiteral : Literal → Literal → Bool
 sameLiteral (B i) (B j) = eqb i j
@@ -65,11 +55,6 @@ abbrev pub start : Program → List Lemma → Monomial
 start p ls = successor p ls START []
 
 -- ---- the exploration
-unfoldable pub setOf : List Literal → ℕ
-setOf [] = 0
-setOf (B j ∷ ms) = 2 ^ j + setOf ms
-setOf (NotB j ∷ ms) = 2 ^ (14 + j) + setOf ms
-
 abbrev pub answer : Monomial → Answer
 answer False = None
 answer (And ms) = To (word SETS (setOf ms))

@@ -17,10 +17,11 @@ use lib.ListN.{length, getD}
 use Rattle.words.specs.Words.{payload, word, SETS}
 use Rattle.grammar.specs.Programs.{Program}
 use Rattle.lemmas.specs.Lemmas.{Lemma}
-use Rattle.formula.specs.Formula.{Literal, Monomial, False, And, Reachable}
+use Rattle.words.specs.LiteralSets.{Literal, literalsIn, setOf}
+use Rattle.formula.specs.Formula.{Monomial, False, And, Reachable}
 use Rattle.search.specs.Search.{Answer, To, None, Origin, Root, From, Graph, Result, Done, Over, count, nodeWord, origin, edge}
 use Rattle.records.specs.Records.{mostNodes}
-use Rattle.abstraction.specs.Abstraction.{literalsIn, successor, start, setOf}
+use Rattle.abstraction.specs.Abstraction.{successor, start}
 
 abbrev pub ReachableIn : Program → List Lemma → List Literal → Type 0
 ReachableIn p ls m = Reachable (start p ls) (successor p ls) (length (p .actions)) m

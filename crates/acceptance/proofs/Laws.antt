@@ -14,7 +14,8 @@ use Rattle.rows.specs.declared.Row.{Row}
 use Rattle.rows.specs.Rows.{negated}
 use Rattle.rows.specs.Bounds.{Small, Room, Read, noRow}
 use Rattle.rows.proofs.Laws.{room-weaken}
-use Rattle.runs.specs.Runs.{has, rowIf, literalRows}
+use Rattle.words.specs.LiteralSets.{has}
+use Rattle.runs.specs.Values.{rowIf, premiseRows}
 use Rattle.sums.specs.Sums.{combine, constRow}
 use Rattle.sums.specs.Fits.{RowFits, Single, After}
 use Rattle.sums.proofs.Room.{room-plus, room-negated, room-const, row-fits, read-single}
@@ -114,7 +115,7 @@ module _ (ws : List ℕ) (t : Sum) (rs : List Row) (i : ℕ) (s : Sum) (P : Adde
 
 -- ---- the loop over predicates: the literals of those below p are added
 pub record Premised (ws : List ℕ) (t : Sum) (ps : List Row) (set p : ℕ) (s : Sum) : Type 0 where
-  pub rest : addRows ws s (literalRows p (drop p ps) set) ≡ addRows ws t (literalRows 0 ps set)
+  pub rest : addRows ws s (premiseRows p (drop p ps) set) ≡ addRows ws t (premiseRows 0 ps set)
   pub fine : Fine (2 * p) (s .row)
 
 -- one turn: the literals of the predicate r are added
@@ -125,27 +126,27 @@ pub record LiteralTurn (ws : List ℕ) (t : Sum) (ps : List Row) (set p : ℕ) (
 
 module _ (ws : List ℕ) (t : Sum) (ps : List Row) (set p : ℕ) (s : Sum) (P : Premised ws t ps set p s) where
   two-more : (r : Row) → getD ps p noRow ≡ r → p < length ps
-      → addRows ws (addRows ws (addRows ws s (rowIf (has p set) r)) (rowIf (has (14 + p) set) (negated r))) (literalRows (p + 1) (drop (p + 1) ps) set) ≡ addRows ws t (literalRows 0 ps set)
-  unfolding literalRows
+      → addRows ws (addRows ws (addRows ws s (rowIf (has p set) r)) (rowIf (has (14 + p) set) (negated r))) (premiseRows (p + 1) (drop (p + 1) ps) set) ≡ addRows ws t (premiseRows 0 ps set)
+  unfolding premiseRows
   two-more r e l =
       let xs = rowIf (has p set) r in
       let ys = rowIf (has (14 + p) set) (negated r) in
-      let zs = literalRows (p + 1) (drop (p + 1) ps) set in
-      let these : literalRows p (drop p ps) set ≡ xs ++ (ys ++ zs) = rw (add-one p, ← e, drop-cons ps p noRow l) refl in
+      let zs = premiseRows (p + 1) (drop (p + 1) ps) set in
+      let these : premiseRows p (drop p ps) set ≡ xs ++ (ys ++ zs) = rw (add-one p, ← e, drop-cons ps p noRow l) refl in
       sym (rows-append ws (addRows ws s xs) ys zs) ∙ sym (rows-append ws s xs (ys ++ zs)) ∙ rw these at (P .rest)
 
-  pub literal-turn : (r : Row) → getD ps p noRow ≡ r → Read r → p < length ps → p < 14 → t .used + length (literalRows 0 ps set) ≤ length ws → LiteralTurn ws t ps set p s r
+  pub literal-turn : (r : Row) → getD ps p noRow ≡ r → Read r → p < length ps → p < 14 → t .used + length (premiseRows 0 ps set) ≤ length ws → LiteralTurn ws t ps set p s r
   literal-turn r e h l few room =
       let xs = rowIf (has p set) r in
       let ys = rowIf (has (14 + p) set) (negated r) in
-      let zs = literalRows (p + 1) (drop (p + 1) ps) set in
+      let zs = premiseRows (p + 1) (drop (p + 1) ps) set in
       let half = addRows ws s xs in
       let more = two-more r e l in
       let used = ap (λ (x : Sum). x .used) more in
       let a = rows-used ws s xs in
       let b = rows-used ws half ys in
       let d = rows-used ws (addRows ws half ys) zs in
-      let g = rows-used ws t (literalRows 0 ps set) in
+      let g = rows-used ws t (premiseRows 0 ps set) in
       let f = fine-if ws s r (2 * p) (has p set) (P .fine) (read-single h) in
       let k = fine-if ws half (negated r) (2 * p + 1) (has (14 + p) set) f (room-negated r h) in
       record {
@@ -154,8 +155,8 @@ module _ (ws : List ℕ) (t : Sum) (ps : List Row) (set p : ℕ) (s : Sum) (P : 
         next = record { rest = more; fine = fine-weaken (2 * p + 1 + 1) (2 * (p + 1)) (omega arith) k };
       }
 
-  pub premised-all : length ps ≤ p → p ≤ 14 → (s ≡ addRows ws t (literalRows 0 ps set)) × Fine 28 (s .row)
-  unfolding addRows literalRows
+  pub premised-all : length ps ≤ p → p ≤ 14 → (s ≡ addRows ws t (premiseRows 0 ps set)) × Fine 28 (s .row)
+  unfolding addRows premiseRows
   premised-all l h = (rw (drop-of-length-le ps {i = p} l) at (P .rest), fine-weaken (2 * p) 28 (omega arith) (P .fine))
 
 -- ---- the three parts of a lemma's sum, one behind the other

@@ -5,7 +5,8 @@ ghost use Prim.Native.Nat.{ℕ, _+_, _<_, _≤_};
 ghost use lib.IntN.{pos};
 ghost use lib.ListN.{length, getD, take, drop};
 ghost use Rattle.rows.specs.Bounds.{Small, Read, noRow};
-ghost use Rattle.runs.specs.Runs.{has, rowIf, literalRows};
+ghost use Rattle.words.specs.LiteralSets.{has};
+ghost use Rattle.runs.specs.Values.{rowIf, premiseRows};
 ghost use Rattle.sums.specs.Sums.{constRow, combine};
 ghost use Rattle.sums.specs.Fits.{RowFits, After};
 ghost use Rattle.acceptance.specs.Adding.{multOf, addRow, addRows, Fine};
@@ -54,10 +55,10 @@ fn in_set(set: u32, j: usize) -> bool
 
 // The premises more: the set's literals, by rising predicate.
 pub fn add_premises(t: Sum, preds: [Row; 14], n: usize, set: u32, words: &[u32]) -> Sum
-    requires { ⌜ (n ≤ 14) × (t .used + length (literalRows 0 (take n preds) set) ≤ length (now words)) ⌝ }
+    requires { ⌜ (n ≤ 14) × (t .used + length (premiseRows 0 (take n preds) set) ≤ length (now words)) ⌝ }
     requires { ⌜ Fine 0 (t .row) ⌝ }
     requires { ⌜ ((i : ℕ) → Read (getD preds i noRow)) ⌝ }
-    ensures { λ out. ⌜ (out ≡ addRows (now (words .entry)) t (literalRows 0 (take n preds) set)) × Fine 28 (out .row) ⌝ }
+    ensures { λ out. ⌜ (out ≡ addRows (now (words .entry)) t (premiseRows 0 (take n preds) set)) × Fine 28 (out .row) ⌝ }
 {
     let mut s = t;
     let mut p: usize = 0;
@@ -101,10 +102,10 @@ pub fn lemma_sum(
     words: &[u32],
     at: usize,
 ) -> Row
-    requires { ⌜ (np ≤ 14) × (n ≤ 14) × (at + length (rowIf goal q ++ (literalRows 0 (take np preds) set ++ take n rows)) ≤ length (now words)) ⌝ }
+    requires { ⌜ (np ≤ 14) × (n ≤ 14) × (at + length (rowIf goal q ++ (premiseRows 0 (take np preds) set ++ take n rows)) ≤ length (now words)) ⌝ }
     requires { ⌜ After q ⌝ }
     requires { ⌜ ((i : ℕ) → Read (getD preds i noRow)) × ((i : ℕ) → Read (getD rows i noRow)) ⌝ }
-    ensures { λ r. ⌜ (r ≡ combine (constRow (pos 0)) (map multOf (drop at (now (words .entry)))) (rowIf goal q ++ (literalRows 0 (take np preds) set ++ take n rows))) × Small r ⌝ }
+    ensures { λ r. ⌜ (r ≡ combine (constRow (pos 0)) (map multOf (drop at (now (words .entry)))) (rowIf goal q ++ (premiseRows 0 (take np preds) set ++ take n rows))) × Small r ⌝ }
 {
     let coef = [0i64; 8];
     let row = Row { coef, constant: 0 };

@@ -24,11 +24,12 @@ use Rattle.grammar.specs.WellFormed.{Each, WellFormed}
 use Rattle.reader.specs.Results.{zeroRow, zeroRows}
 use Rattle.programs.specs.Images.{zeroRanges}
 use Rattle.programs.proofs.Places.{stored-at}
-use Rattle.runs.specs.Runs.{actionOf, rowIf}
+use Rattle.runs.specs.Values.{rowIf}
+use Rattle.runs.specs.Runs.{actionOf, predicate}
 use Rattle.runs.proofs.Sizes.{every-set, zeros-small}
 use Rattle.sums.specs.Sums.{addScaled, combine, constRow, afterwards}
 use Rattle.acceptance.specs.Adding.{multOf}
-use Rattle.lemmas.specs.Lemmas.{Goal, CannotHappen, HoldsAfter, FailsAfter, NotBelow, NotAbove, goalNumber, predicate, range, newRows, negatedGoal}
+use Rattle.lemmas.specs.Lemmas.{Goal, CannotHappen, HoldsAfter, FailsAfter, NotBelow, NotAbove, goalNumber, range, newRows, negatedGoal}
 use Rattle.lemmas.specs.LemmaGrammar.{goalAllowed, setsVariable, encodeMultiplier}
 use Rattle.lemmas.proofs.LemmaLaws.{sets-known, action-rising}
 use Rattle.ask.specs.Weighing.{endRow, goalRow, refuted}

@@ -22,7 +22,9 @@ use Rattle.grammar.proofs.ReadingLaws.{Taken}
 use Rattle.reader.specs.Results.{zeroRow}
 use Rattle.programs.specs.declared.Image.{Image}
 use Rattle.programs.specs.Images.{imageOf}
-use Rattle.runs.specs.Runs.{actionOf, rowIf, literalRows}
+use Rattle.runs.specs.Values.{rowIf, premiseRows}
+use Rattle.runs.specs.Runs.{actionOf, literalRows}
+use Rattle.runs.proofs.LiteralRows.{premises-same}
 use Rattle.runs.proofs.Sizes.{front-stored, ReadRows, guards-read, new-rows-read, ranges-small}
 use Rattle.sums.specs.Sums.{combine, constRow, afterwards}
 use Rattle.acceptance.specs.Adding.{multOf}
@@ -116,13 +118,13 @@ module _ (ws : List ℕ) {g : Image} (held : Held ws g) (ls : List ℕ) (at : �
 
     module _ {row q : Row} (er : row ≡ goalRow (g .ranges) (g .pred) goal i) (eq : q ≡ afterwards (x .new) (refuted goal row)) where
       abbrev rows : List Row
-      rows = rowIf (not (eqb goal 0)) q ++ (literalRows 0 (take (g .preds) (g .pred)) (payload s) ++ take (x .count) (x .rows))
+      rows = rowIf (not (eqb goal 0)) q ++ (premiseRows 0 (take (g .preds) (g .pred)) (payload s) ++ take (x .count) (x .rows))
 
       goal-row-is : rowIf (not (eqb goal 0)) q ≡ negatedGoal p (l .source) (l .goal) (l .index)
       goal-row-is = rw (eq, er, goal-is, index-is, ranges-are, preds-are, offers) (negated-is p ok (l .source) (l .goal) (l .index) (good p ok ls at h .goal))
 
-      premises-are : literalRows 0 (take (g .preds) (g .pred)) (payload s) ≡ literalRows 0 (p .predicates) (l .premises .0)
-      premises-are = rw (set-is, preds-are, counts ws held 0 .1) (ap (λ (rs : List Row). literalRows 0 rs (l .premises .0)) (front-stored 14 zeroRow (p .predicates) (ok .predicates .few)))
+      premises-are : premiseRows 0 (take (g .preds) (g .pred)) (payload s) ≡ literalRows p (l .premises)
+      premises-are = rw (set-is, preds-are, counts ws held 0 .1) (ap (λ (rs : List Row). premiseRows 0 rs (l .premises .0)) (front-stored 14 zeroRow (p .predicates) (ok .predicates .few)) ∙ sym (premises-same p (l .premises)))
 
       source-is : take (x .count) (x .rows) ≡ sourceRows p (l .source)
       source-is = rw offers (front-stored 14 zeroRow (sourceRows p (l .source)) (omega (arith, source-rows-good p ok (l .source) .few)))

@@ -10,13 +10,13 @@ use Rattle.grammar.specs.Programs.{Assignment, Action, Program}
 use Rattle.grammar.specs.WellFormed.{Each}
 use Rattle.lemmas.specs.Lemmas.{Goal, NotBelow, NotAbove, Lemma}
 use Rattle.words.specs.Words.{payload}
-use Rattle.formula.specs.Formula.{Literal}
+use Rattle.words.specs.LiteralSets.{Literal, literalsIn}
 use Rattle.search.specs.Search.{Answer, Graph, Done, count}
 use Rattle.search.specs.Paths.{Walk}
 use Rattle.search.proofs.Theorem.{whole}
 use Rattle.search.proofs.Paths.{path-in-graph}
 use Rattle.records.specs.Records.{mostNodes}
-use Rattle.abstraction.specs.Abstraction.{literalsIn, applies, successor, start, answer, graph}
+use Rattle.abstraction.specs.Abstraction.{applies, successor, start, answer, graph}
 use Rattle.abstraction.specs.Faithful.{literalsAt}
 use Rattle.verdict.specs.Verdicts.{Finding, Forbid, RunOff, contradicted, unless, forbids, ends, hasNext, runsOff, findingsAt, findingsFrom, findings, nodeOf, stepsTo}
 

@@ -1,5 +1,5 @@
 -- What a lemma's first two words may say, by the program's counts and what the source sets; how many rows a lemma has.
-use mathlib.Core.Path.{_≡_, refl, sym, _∙_}
+use mathlib.Core.Path.{_≡_, refl, sym, ap, _∙_}
 use mathlib.Core.Bool.{Bool, true, false, cond, _&&_, _||_, not}
 use mathlib.Core.List.{List, [], _∷_}
 use Prim.Native.Nat.{ℕ, zero, suc, _+_, _-_, _≤_, _<_}
@@ -19,7 +19,10 @@ use Rattle.grammar.specs.WellFormed.{Each, Few, RowOk, Rising, ActionOk, WellFo
 use Rattle.actions.specs.Results.{marked, noMarks}
 use Rattle.programs.specs.declared.Image.{Image}
 use Rattle.programs.proofs.Places.{noneAction}
-use Rattle.runs.specs.Runs.{has, rowIf, literalRows, actionOf}
+use Rattle.words.specs.LiteralSets.{has}
+use Rattle.runs.specs.Values.{rowIf, premiseRows}
+use Rattle.runs.specs.Runs.{actionOf, literalRows}
+use Rattle.runs.proofs.LiteralRows.{premises-same}
 use Rattle.lemmas.specs.Lemmas.{Goal, CannotHappen, HoldsAfter, FailsAfter, NotBelow, NotAbove, goalNumber, goalOf, Lemma, START, negatedGoal, sourceRows, rowsOf}
 use Rattle.lemmas.specs.LemmaGrammar.{setsVariable, goalAllowed, headAllowed, premisesAllowed, lemmaOf}
 use Rattle.lemmas.specs.Sources.{theProgram, Held, shapeOf, goalBy, headBy, premisesBy, oneIf, literalCount, rowCount}
@@ -98,11 +101,11 @@ length-if : (b : Bool) (r : Row) → length (rowIf b r) ≡ oneIf b
 length-if true r = refl
 length-if false r = refl
 
-pub literals-counted : (i : ℕ) (rs : List Row) (set : ℕ) → length (literalRows i rs set) ≡ literalCount i (length rs) set
-unfolding literalRows literalCount
+pub literals-counted : (i : ℕ) (rs : List Row) (set : ℕ) → length (premiseRows i rs set) ≡ literalCount i (length rs) set
+unfolding premiseRows literalCount
 literals-counted i [] set = refl
 literals-counted i (r ∷ rs) set =
-    length-append (rowIf (has i set) r) _ ∙ rw (length-append (rowIf (has (14 + i) set) (negated r)) (literalRows (suc i) rs set), length-if (has i set) r, length-if (has (14 + i) set) (negated r), literals-counted (suc i) rs set) refl
+    length-append (rowIf (has i set) r) _ ∙ rw (length-append (rowIf (has (14 + i) set) (negated r)) (premiseRows (suc i) rs set), length-if (has i set) r, length-if (has (14 + i) set) (negated r), literals-counted (suc i) rs set) refl
 
 goals-counted : (p : Program) (s : ℕ) (g : Goal) (i : ℕ) → length (negatedGoal p s g i) ≡ oneIf (not (eqb (goalNumber g) 0))
 goals-counted p s CannotHappen i = refl
@@ -120,9 +123,10 @@ none-alike (suc (suc (suc (suc n)))) = ne-eqb (suc (suc (suc (suc n)))) 0 (λ e.
 
 pub rows-counted : (p : Program) (l : Lemma) → rowCount (goalNumber (l .goal)) (length (p .predicates)) (l .premises .0) (length (sourceRows p (l .source))) ≡ length (rowsOf p l)
 rows-counted p l =
-    let m = literals-counted 0 (p .predicates) (l .premises .0) in
+    let m : length (literalRows p (l .premises)) ≡ literalCount 0 (length (p .predicates)) (l .premises .0) =
+    ap length (premises-same p (l .premises)) ∙ literals-counted 0 (p .predicates) (l .premises .0) in
     sym (length-append (negatedGoal p (l .source) (l .goal) (l .index)) _
-    ∙ rw (goals-counted p (l .source) (l .goal) (l .index), length-append (literalRows 0 (p .predicates) (l .premises .0)) (sourceRows p (l .source)), m) refl)
+    ∙ rw (goals-counted p (l .source) (l .goal) (l .index), length-append (literalRows p (l .premises)) (sourceRows p (l .source)), m) refl)
 
 -- ---- the loop that counts literals: t so far, of those below i
 pub record Counting (n set i t : ℕ) : Type 0 where

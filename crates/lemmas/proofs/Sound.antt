@@ -2,7 +2,7 @@
 use mathlib.Core.Path.{_≡_, refl, sym, ap, _∙_}
 use mathlib.Core.Bool.{Bool, true, false, cond}
 use mathlib.Core.List.{List, [], _∷_, _++_, map}
-use Prim.Native.Nat.{ℕ, zero, suc, _+_, _-_, _≤_, _<_}
+use Prim.Native.Nat.{ℕ, zero, suc, _-_, _≤_, _<_}
 use native.Mathlib.Omega.{arith}
 use lib.Dec.{eqb}
 use lib.IntN.{ℤ, pos, negsuc, negℤ}
@@ -16,16 +16,19 @@ use Rattle.rows.specs.Rows.{rowValue, Holds, negated, largestValue, InRanges, i
 use Rattle.rows.proofs.Laws.{negation}
 use Rattle.grammar.specs.Programs.{Assignment, Program}
 use Rattle.grammar.specs.WellFormed.{Each, RowOk, Rising, ActionOk, WellFormed}
+use Rattle.reader.specs.Results.{zeroRow}
 use Rattle.actions.specs.Results.{keepRows, assigned}
 use Rattle.programs.proofs.Places.{noneAction}
-use Rattle.runs.specs.Runs.{allHold, holds, within, lowestOff, Inside, newState, actionOf, has, rowIf, literalRows}
+use Rattle.words.specs.declared.Literals.{Literals}
+use Rattle.words.specs.LiteralSets.{Literal, B, NotB, literalsIn}
+use Rattle.runs.specs.Runs.{allHold, holds, within, lowestOff, Inside, newState, actionOf, predicate, literalRow, literalRows, meets}
 use Rattle.runs.specs.Values.{padded}
 use Rattle.runs.proofs.Trying.{first-on, value-padded}
 use Rattle.runs.proofs.Sizes.{every-each, unit-value}
 use Rattle.runs.proofs.NewValues.{new-values}
 use Rattle.sums.specs.Sums.{combine, constRow, afterwards}
 use Rattle.sums.proofs.Laws.{Eights, Hold, after-value, after-long, sum-holds, never-holds}
-use Rattle.lemmas.specs.Lemmas.{Goal, CannotHappen, HoldsAfter, FailsAfter, NotBelow, NotAbove, Lemma, START, sourceRows, newRows, predicate, range, aboveLow, belowHigh, negatedGoal, accepted}
+use Rattle.lemmas.specs.Lemmas.{Goal, CannotHappen, HoldsAfter, FailsAfter, NotBelow, NotAbove, Lemma, START, sourceRows, newRows, range, aboveLow, belowHigh, negatedGoal, accepted}
 use Rattle.lemmas.specs.LemmaGrammar.{goalAllowed, setsVariable, LemmaOk}
 use Rattle.lemmas.specs.Truth.{happens, Claim, True}
 use Rattle.lemmas.proofs.LemmaLaws.{sets-known}
@@ -57,16 +60,15 @@ eights-if false xs ys h k = k
 negated-long : (r : Row) → length (r .coef) ≡ 8 → length (negated r .coef) ≡ 8
 negated-long r h = length-map (r .coef) negℤ ∙ h
 
-eights-literals : (i : ℕ) (rs : List Row) (n : ℕ) → Eights rs → Eights (literalRows i rs n)
-unfolding literalRows
-eights-literals i [] n h = tt
-eights-literals i (r ∷ rs) n h =
-    let xs = rowIf (has i n) r in
-    let ys = rowIf (has (14 + i) n) (negated r) in
-    let zs = literalRows (suc i) rs n in
-    eights-append xs (ys ++ zs)
-    (eights-if (has i n) (r ∷ []) [] (h .0, tt) tt)
-    (eights-append ys zs (eights-if (has (14 + i) n) (negated r ∷ []) [] (negated-long r (h .0), tt) tt) (eights-literals (suc i) rs n (h .1)))
+predicate-long : (vars : ℕ) (rs : List Row) (j : ℕ) → Each (RowOk vars) rs → length (getD rs j zeroRow .coef) ≡ 8
+predicate-long vars [] j h = refl
+predicate-long vars (r ∷ rs) zero h = h .0 .eight
+predicate-long vars (r ∷ rs) (suc j) h = predicate-long vars rs j (h .1)
+
+eights-literals : (p : Program) → WellFormed p → (ms : List Literal) → Eights (map (literalRow p) ms)
+eights-literals p ok [] = tt
+eights-literals p ok (B j ∷ ms) = (predicate-long (length (p .ranges)) (p .predicates) j (ok .predicates .each), eights-literals p ok ms)
+eights-literals p ok (NotB j ∷ ms) = (negated-long (predicate p j) (predicate-long (length (p .ranges)) (p .predicates) j (ok .predicates .each)), eights-literals p ok ms)
 
 eights-set : (rs : List Row) (i : ℕ) (r : Row) → Eights rs → length (r .coef) ≡ 8 → Eights (set rs i r)
 eights-set [] i r h k = tt
@@ -155,9 +157,9 @@ module _ (p : Program) (ok : WellFormed p) where
         ∙ ap (rowValue g) (new-values vars (actionOf p source .sets) (action-ok source .rising) s (inside .long) (ok .ranges .few))
         ∙ value-padded g after (8 - length after)
 
-    module _ (set : ℕ) (ms : List ℕ) (premises : allHold (literalRows 0 (p .predicates) set) s ≡ true) (enabled : happens p source s ≡ true) where
+    module _ (set : Literals) (ms : List ℕ) (premises : meets p set s ≡ true) (enabled : happens p source s ≡ true) where
       abbrev rest : List Row
-      rest = literalRows 0 (p .predicates) set ++ sourceRows p source
+      rest = literalRows p set ++ sourceRows p source
 
       -- the largest value of the sum of these rows and the rest is below 0
       abbrev Refuted : List Row → Type 0
@@ -166,9 +168,9 @@ module _ (p : Program) (ok : WellFormed p) where
       -- then these rows do not all hold
       cannot : (qs : List Row) → Eights qs → Refuted qs → Hold qs s → ⊥
       cannot qs long e h =
-          let xs = literalRows 0 (p .predicates) set in
+          let xs = literalRows p set in
           let ys = sourceRows p source in
-          let longs = eights-append xs ys (eights-literals 0 (p .predicates) set (eights-rows vars (p .predicates) (ok .predicates .each))) (eights-source source) in
+          let longs = eights-append xs ys (eights-literals p ok (literalsIn (length (p .predicates)) (set .0))) (eights-source source) in
           let all = hold-append xs ys s (hold-all xs s premises) (hold-all ys s enabled) in
           let sum = combine (constRow (pos 0)) (map pos ms) (qs ++ rest) in
           never-holds sum (in-ranges (p .ranges) s (inside .long) (omega (arith, inside .none-off))) (ltZ-true (largestValue sum (p .ranges)) (pos 0) e)
@@ -194,4 +196,4 @@ module _ (p : Program) (ok : WellFormed p) where
 
 pub accepted-true : (p : Program) → WellFormed p → (l : Lemma) → LemmaOk p l → accepted p l ≡ true → True p l
 accepted-true p ok l good e s inside premises enabled =
-    claimed p ok s inside (l .source) (l .premises .0) (l .multipliers) premises enabled (l .goal) (l .index) (good .goal) e
+    claimed p ok s inside (l .source) (l .premises) (l .multipliers) premises enabled (l .goal) (l .index) (good .goal) e

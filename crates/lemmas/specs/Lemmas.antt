@@ -6,7 +6,7 @@
 -- START            — the source that stands for the start
 -- sourceRows       — the rows of the source
 -- newRows          — each variable's row afterwards
--- predicate, range — of an index
+-- range            — of a variable
 -- aboveLow, belowHigh — the rows of goals 3 and 4
 -- negatedGoal      — the negated goal's row; none where the source cannot happen
 -- rowsOf           — the rows of a lemma, each with its multiplier
@@ -25,7 +25,7 @@ use Rattle.rows.specs.declared.Range.{Range}
 use Rattle.rows.specs.Rows.{negated, largestValue, zeroRange}
 use Rattle.grammar.specs.Programs.{Program}
 use Rattle.actions.specs.Results.{keepRows, assigned}
-use Rattle.runs.specs.Runs.{actionOf, literalRows}
+use Rattle.runs.specs.Runs.{actionOf, predicate, literalRows}
 use Rattle.sums.specs.Sums.{combine, constRow, afterwards}
 
 -- 0 the source cannot happen; 1 predicate index holds afterwards; 2 it fails afterwards; 3 variable index is not below its low end
@@ -71,9 +71,6 @@ sourceRows p source = cond (eqb source START) (p .start) (actionOf p source .gua
 abbrev pub newRows : Program → ℕ → List Row
 newRows p source = assigned keepRows (actionOf p source .sets)
 
-abbrev pub predicate : Program → ℕ → Row
-predicate p i = getD (p .predicates) i (constRow (pos 0))
-
 abbrev pub range : Program → ℕ → Range
 range p v = getD (p .ranges) v zeroRange
 
@@ -94,7 +91,7 @@ negatedGoal p source NotAbove i = afterwards (newRows p source) (negated (belowH
 
 -- One MULT each for: the negated goal, each premise by rising predicate, each row of the source.
 abbrev pub rowsOf : Program → Lemma → List Row
-rowsOf p l = negatedGoal p (l .source) (l .goal) (l .index) ++ (literalRows 0 (p .predicates) (l .premises .0) ++ sourceRows p (l .source))
+rowsOf p l = negatedGoal p (l .source) (l .goal) (l .index) ++ (literalRows p (l .premises) ++ sourceRows p (l .source))
 
 -- Each row of a lemma is multiplied by its number and all are added.
 abbrev pub total : Program → Lemma → Row

@@ -30,7 +30,8 @@ use Rattle.programs.specs.Calls.{read}
 use Rattle.programs.specs.Images.{imageOf, places}
 use Rattle.programs.specs.declared.Image.{Image}
 use Rattle.programs.specs.declared.Status.the-variants.{Ready, Failed}
-use Rattle.runs.specs.Runs.{has, actionOf}
+use Rattle.words.specs.LiteralSets.{has}
+use Rattle.runs.specs.Runs.{actionOf}
 use Rattle.lemmas.specs.Lemmas.{goalNumber, Lemma, START, sourceRows, newRows}
 use Rattle.lemmas.specs.LemmaGrammar.{encodeLemma}
 use Rattle.lemmas.specs.declared.Source.{Source}

@@ -11,8 +11,8 @@ use lib.IntN.{ℤ, pos}
 use lib.Signed.{_≤ℤ_}
 use lib.ListN.{getD}
 use Rattle.grammar.specs.Programs.{Program}
-use Rattle.runs.specs.Runs.{holds, allHold, Inside, newState, actionOf, meets}
-use Rattle.lemmas.specs.Lemmas.{Goal, CannotHappen, HoldsAfter, FailsAfter, NotBelow, NotAbove, Lemma, sourceRows, predicate, range}
+use Rattle.runs.specs.Runs.{holds, allHold, Inside, newState, actionOf, meets, predicate}
+use Rattle.lemmas.specs.Lemmas.{Goal, CannotHappen, HoldsAfter, FailsAfter, NotBelow, NotAbove, Lemma, sourceRows, range}
 
 abbrev pub happens : Program → ℕ → List ℤ → Bool
 happens p source s = allHold (sourceRows p source) s
@@ -26,5 +26,5 @@ Claim p NotAbove i t = getD t i (pos 0) ≤ℤ range p i .high
 
 -- Of every state in the ranges that meets the premises and at which the source may happen, the goal is true of what the assignments give.
 abbrev pub True : Program → Lemma → Type 0
-True p l = (s : List ℤ) → Inside p s → meets (p .predicates) (l .premises) s ≡ true → happens p (l .source) s ≡ true
+True p l = (s : List ℤ) → Inside p s → meets p (l .premises) s ≡ true → happens p (l .source) s ≡ true
     → Claim p (l .goal) (l .index) (newState (actionOf p (l .source)) s)

@@ -8,7 +8,7 @@ ghost use mathlib.Core.Bool.{false, _||_};
 ghost use lib.Dec.{eqb, ltb};
 ghost use Rattle.lemmas.specs.Lemmas.{START};
 ghost use Rattle.reader.specs.Results.{nextOf};
-ghost use Rattle.runs.specs.Runs.{has};
+ghost use Rattle.words.specs.LiteralSets.{has};
 ghost use Rattle.lemmas.specs.LemmaGrammar.{multiplier, lemma, asLemma, readLemmas};
 ghost use Rattle.lemmas.specs.Sources.{theProgram, Held, sourceOf, shapeOf, slotOf, Slotted, goalBy, headBy, premisesBy, literalCount, rowCount, oneIf, lemmaRead, noBegins, beginsFrom, listed};
 use programs::Image;

@@ -4,5 +4,6 @@ pub mod Trying
 pub mod Sizes
 pub mod NewValues
 pub mod Tried
+pub mod LiteralRows
 pub mod Answers
 pub mod Steps

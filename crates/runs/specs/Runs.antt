@@ -7,19 +7,20 @@
 -- newValue          — the value that assignments give a variable, from the old ones
 -- valuesFrom, newState — the values of some variables; the state after an action
 -- Outcome, landed, actionOf, step — what trying an action does
--- has, rowIf, literalRows — the rows of a set's literals
+-- predicate, literalRow, literalRows — a predicate's row; a literal's; those of a set's literals
 -- meets, someMet, forbidden — a state meets all literals of a set; of some combination
 -- Ending, Run, onward, run — the states of a run over any list of actions, its moves, and how it ended
 -- SafeRun, Safe     — the safety statement: of one run; of all runs
 use mathlib.Core.Path.{_≡_}
 use mathlib.Core.Bool.{Bool, true, false, cond, _&&_, _||_}
-use mathlib.Core.List.{List, [], _∷_, _++_}
-use Prim.Native.Nat.{ℕ, zero, suc, _+_, _/_, _%_, _^_, _<_}
+use mathlib.Core.List.{List, [], _∷_, map}
+use Prim.Native.Nat.{ℕ, zero, suc, _<_}
 use lib.Dec.{eqb, ltb}
 use lib.IntN.{ℤ, pos}
 use lib.Signed.{leZ}
-use lib.ListN.{length, getD}
+use lib.ListN.{length, getD, replicate}
 use Rattle.words.specs.declared.Literals.{Literals}
+use Rattle.words.specs.LiteralSets.{Literal, B, NotB, literalsIn}
 use Rattle.rows.specs.declared.Row.{Row}
 use Rattle.rows.specs.declared.Range.{Range}
 use Rattle.rows.specs.Rows.{rowValue, negated}
@@ -84,27 +85,27 @@ actionOf p k = getD (p .actions) k (record { guards = []; sets = [] })
 abbrev pub step : Program → ℕ → List ℤ → Outcome
 step p k s = cond (enabled (actionOf p k) s) (landed (p .ranges) (newState (actionOf p k) s)) NotEnabled
 
--- A literal is a predicate or its negation. The literals of a set, by rising predicate from i on.
-abbrev pub has : ℕ → ℕ → Bool
-has j set = eqb (set / 2 ^ j % 2) 1
+abbrev pub predicate : Program → ℕ → Row
+predicate p j = getD (p .predicates) j (record { coef = replicate 8 (pos 0); constant = pos 0 })
 
-abbrev pub rowIf : Bool → Row → List Row
-rowIf b r = cond b (r ∷ []) []
+-- A literal is a predicate or its negation: its row, and the rows of a set's literals by rising predicate.
+abbrev pub literalRow : Program → Literal → Row
+literalRow p (B j) = predicate p j
+literalRow p (NotB j) = negated (predicate p j)
 
-unfoldable pub literalRows : ℕ → List Row → ℕ → List Row
-literalRows i [] set = []
-literalRows i (r ∷ rs) set = rowIf (has i set) r ++ (rowIf (has (14 + i) set) (negated r) ++ literalRows (suc i) rs set)
+abbrev pub literalRows : Program → Literals → List Row
+literalRows p l = map (literalRow p) (literalsIn (length (p .predicates)) (l .0))
 
 -- A state is forbidden when it meets all literals of some forbidden combination.
-abbrev pub meets : List Row → Literals → List ℤ → Bool
-meets rs l s = allHold (literalRows 0 rs (l .0)) s
+abbrev pub meets : Program → Literals → List ℤ → Bool
+meets p l s = allHold (literalRows p l) s
 
-unfoldable pub someMet : List Row → List Literals → List ℤ → Bool
-someMet rs [] s = false
-someMet rs (l ∷ ls) s = meets rs l s || someMet rs ls s
+unfoldable pub someMet : Program → List Literals → List ℤ → Bool
+someMet p [] s = false
+someMet p (l ∷ ls) s = meets p l s || someMet p ls s
 
 abbrev pub forbidden : Program → List ℤ → Bool
-forbidden p s = someMet (p .predicates) (p .forbidden) s
+forbidden p s = someMet p (p .forbidden) s
 
 -- Any list of actions is tried, each on the state that the last one left. The run's states are the first and each one left.
 pub data Ending : Type 0 where

@@ -2,14 +2,14 @@
 use mathlib.Core.Path.{_≡_, refl, sym, _∙_}
 use mathlib.Core.Bool.{Bool, true, false}
 use mathlib.Core.Logic.{⊎-elim}
-use mathlib.Core.List.{List, [], _∷_, _++_}
+use mathlib.Core.List.{List, [], _∷_, _++_, map}
 use Prim.Native.Nat.{ℕ, zero, suc, _+_, _≤_, _<_}
-use native.Mathlib.Nat.{not-suc-le-zero, le-of-suc-le-suc}
+use native.Mathlib.Nat.{not-suc-le-zero}
 use native.Mathlib.Decide.{ℕ-discrete}
 use native.Mathlib.Omega.{arith}
 use lib.IntN.{ℤ, pos}
 use lib.Signed.{clashℤ}
-use lib.ListN.{length, getD}
+use lib.ListN.{length}
 use borrow.Author.Tests.{eqb-true}
 use Rattle.integers.proofs.Tests.{and-true, leZ-true, leZ-false, le-leZ, or-true, false-true}
 use Rattle.words.specs.declared.Literals.{Literals}
@@ -18,12 +18,10 @@ use Rattle.rows.specs.Rows.{rowValue, negated}
 use Rattle.rows.proofs.Laws.{negation}
 use Rattle.grammar.specs.Programs.{Program}
 use Rattle.grammar.specs.WellFormed.{Each}
-use Rattle.runs.specs.Runs.{holds, allHold, has, rowIf, literalRows, meets}
-use Rattle.sums.specs.Sums.{constRow}
-use Rattle.lemmas.specs.Lemmas.{predicate}
+use Rattle.runs.specs.Runs.{holds, allHold, predicate, literalRow, meets}
 use Rattle.lemmas.proofs.Sound.{fails}
-use Rattle.formula.specs.Formula.{Literal, B, NotB}
-use Rattle.abstraction.specs.Abstraction.{literalIf, literalsIn, sameLiteral, among, allAmong}
+use Rattle.words.specs.LiteralSets.{Literal, B, NotB, literalIf, literalsIn, has}
+use Rattle.abstraction.specs.Abstraction.{sameLiteral, among, allAmong}
 use Rattle.verdict.specs.Verdicts.{opposite, contradicted}
 
 -- a literal of a predicate of the program, true at the state
@@ -110,64 +108,36 @@ negated-fails r s e = fails r s (negation r s .0 (leZ-true (pos 0) (rowValue (ne
 abbrev pub Right : Row → List ℤ → Bool → Bool → Type 0
 Right r s b c = (b ≡ true → holds r s ≡ true) × (c ≡ true → holds r s ≡ false)
 
-module _ (set : ℕ) (s : List ℤ) where
-  -- the set's literals of predicate k are true of the row
-  abbrev Says : ℕ → Row → Type 0
-  Says k r = Right r s (has k set) (has (14 + k) set)
-
-  row-in : (b : Bool) (r : Row) (rest : List Row) → (b ≡ true → holds r s ≡ true) → allHold rest s ≡ true → allHold (rowIf b r ++ rest) s ≡ true
+-- ---- the rows of some literals
+module _ (p : Program) (s : List ℤ) where
+  rows-hold : (ms : List Literal) → Each (TrueAt p s) ms → allHold (map (literalRow p) ms) s ≡ true
   unfolding allHold
-  row-in true r rest h e = rw (h refl) e
-  row-in false r rest h e = e
+  rows-hold [] h = refl
+  rows-hold (B j ∷ ms) h = rw (h .0 .1, rows-hold ms (h .1)) refl
+  rows-hold (NotB j ∷ ms) h = rw (negated-holds (predicate p j) s (h .0 .1), rows-hold ms (h .1)) refl
 
-  row-out : (b : Bool) (r : Row) (rest : List Row) → allHold (rowIf b r ++ rest) s ≡ true → (b ≡ true → holds r s ≡ true) × (allHold rest s ≡ true)
+  rows-held : (ms : List Literal) → allHold (map (literalRow p) ms) s ≡ true → Each (λ l. holds (literalRow p l) s ≡ true) ms
   unfolding allHold
-  row-out true r rest e = let (a, c) = and-true (holds r s) (allHold rest s) e in (λ q. a, c)
-  row-out false r rest e = (λ q. false-true q, e)
-
-  module _ (d : Row) where
-    rows-hold : (i : ℕ) (rs : List Row) → ((j k : ℕ) → j ≡ i + k → k < length rs → Says j (getD rs k d)) → allHold (literalRows i rs set) s ≡ true
-    unfolding literalRows allHold
-    rows-hold i [] h = refl
-    rows-hold i (r ∷ rs) h =
-        let rest = literalRows (suc i) rs set in
-        let (x, y) = h i 0 (omega arith) (omega arith) in
-        row-in (has i set) r (rowIf (has (14 + i) set) (negated r) ++ rest) x
-        (row-in (has (14 + i) set) (negated r) rest (λ e. negated-holds r s (y e)) (rows-hold (suc i) rs (λ j k q l. h j (suc k) (omega arith) (omega arith))))
-
-    rows-held : (i : ℕ) (rs : List Row) → allHold (literalRows i rs set) s ≡ true → (j k : ℕ) → j ≡ i + k → k < length rs → Says j (getD rs k d)
-    unfolding literalRows
-    rows-held i [] e j k q l = absurd (not-suc-le-zero l)
-    rows-held i (r ∷ rs) e j zero q l =
-        let rest = literalRows (suc i) rs set in
-        let (x, f) = row-out (has i set) r (rowIf (has (14 + i) set) (negated r) ++ rest) e in
-        let (y, g) = row-out (has (14 + i) set) (negated r) rest f in
-        let same : j ≡ i = omega arith in
-        rw same (x, λ z. negated-fails r s (y z))
-    rows-held i (r ∷ rs) e j (suc k) q l =
-        let rest = literalRows (suc i) rs set in
-        let f = row-out (has i set) r (rowIf (has (14 + i) set) (negated r) ++ rest) e .1 in
-        rows-held (suc i) rs (row-out (has (14 + i) set) (negated r) rest f .1) j k (omega arith) (le-of-suc-le-suc l)
+  rows-held [] e = tt
+  rows-held (l ∷ ms) e = let (a, b) = and-true (holds (literalRow p l) s) (allHold (map (literalRow p) ms) s) e in (a, rows-held ms b)
 
 -- ---- a set at a state
 module _ (p : Program) (s : List ℤ) (l : Literals) where
   -- its literals are true: it is met
-  pub met : length (p .predicates) ≤ 14 → Each (TrueAt p s) (literalsIn 14 (l .0)) → meets (p .predicates) l s ≡ true
-  met few h = rows-hold (l .0) s (constRow (pos 0)) 0 (p .predicates) (λ j k q b.
-      let (x, y) = literals-out (TrueAt p s) (l .0) 14 h k (omega arith) in
-      let same : j ≡ k = omega arith in
-      rw same (λ e. x e .1, λ e. y e .1))
+  pub met : length (p .predicates) ≤ 14 → Each (TrueAt p s) (literalsIn 14 (l .0)) → meets p l s ≡ true
+  met few h = rows-hold p s (literalsIn (length (p .predicates)) (l .0)) (literals-in (TrueAt p s) (l .0) (length (p .predicates)) (λ k b. literals-out (TrueAt p s) (l .0) 14 h k (omega arith)))
 
   -- a true literal contradicts it: it is not
-  pub not-met : (m : List Literal) → Each (TrueAt p s) m → contradicted (literalsIn 14 (l .0)) m ≡ true → meets (p .predicates) l s ≡ false
-  not-met m h e = go (meets (p .predicates) l s) refl
+  pub not-met : (m : List Literal) → Each (TrueAt p s) m → contradicted (literalsIn 14 (l .0)) m ≡ true → meets p l s ≡ false
+  not-met m h e = go (meets p l s) refl
     where
-      go : (b : Bool) → meets (p .predicates) l s ≡ b → meets (p .predicates) l s ≡ false
+      go : (b : Bool) → meets p l s ≡ b → meets p l s ≡ false
       go false q = q
       go true q =
-          let says = rows-held (l .0) s (constRow (pos 0)) 0 (p .predicates) q in
+          let n = length (p .predicates) in
+          let says = literals-out (λ l. holds (literalRow p l) s ≡ true) (l .0) n (rows-held p s (literalsIn n (l .0)) q) in
           absurd (contradicted-each (TrueAt p s) (literalsIn 14 (l .0)) m h
           (literals-in (λ l. TrueAt p s (opposite l) → ⊥) (l .0) 14 (λ k b. (
-            λ x t. false-true (sym (t .1) ∙ says k k (omega arith) (t .0) .0 x),
-            λ x t. false-true (sym (says k k (omega arith) (t .0) .1 x) ∙ t .1),
+            λ x t. false-true (sym (t .1) ∙ says k (t .0) .0 x),
+            λ x t. false-true (sym (negated-fails (predicate p k) s (says k (t .0) .1 x)) ∙ t .1),
           ))) e)

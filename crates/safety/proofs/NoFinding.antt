@@ -13,9 +13,9 @@ use Rattle.grammar.specs.WellFormed.{Each}
 use Rattle.programs.proofs.Places.{noneAction}
 use Rattle.runs.specs.Runs.{actionOf, someMet, forbidden}
 use Rattle.lemmas.specs.Lemmas.{Goal, NotBelow, NotAbove, Lemma}
-use Rattle.formula.specs.Formula.{Literal}
+use Rattle.words.specs.LiteralSets.{Literal, literalsIn}
 use Rattle.search.specs.Search.{Graph, count}
-use Rattle.abstraction.specs.Abstraction.{literalsIn, applies, successor}
+use Rattle.abstraction.specs.Abstraction.{applies, successor}
 use Rattle.abstraction.specs.Faithful.{literalsAt}
 use Rattle.verdict.specs.Verdicts.{Finding, RunOff, Forbid, contradicted, unless, forbids, ends, hasNext, runsOff, findingsAt, findingsFrom, findings}
 use Rattle.safety.proofs.Literals.{TrueAt, not-met}
@@ -29,7 +29,7 @@ unless-none true f e = refl
 unless-none false f e = absurd (cons≢nil e)
 
 -- ---- a node
-forbids-none : (p : Program) (s : List ℤ) (k : ℕ) (m : List Literal) (b : ℕ) (cs : List Literals) → Each (TrueAt p s) m → forbids k m b cs ≡ [] → someMet (p .predicates) cs s ≡ false
+forbids-none : (p : Program) (s : List ℤ) (k : ℕ) (m : List Literal) (b : ℕ) (cs : List Literals) → Each (TrueAt p s) m → forbids k m b cs ≡ [] → someMet p cs s ≡ false
 unfolding forbids someMet
 forbids-none p s k m b [] h e = refl
 forbids-none p s k m b (c ∷ cs) h e =

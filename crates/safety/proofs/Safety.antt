@@ -16,7 +16,8 @@ use Rattle.runs.proofs.NewValues.{none-set}
 use Rattle.lemmas.specs.Lemmas.{NotBelow, NotAbove, Lemma, START, range}
 use Rattle.lemmas.specs.LemmaGrammar.{LemmaOk}
 use Rattle.lemmas.specs.Truth.{happens}
-use Rattle.formula.specs.Formula.{Literal, Monomial, False, And, at-start}
+use Rattle.words.specs.LiteralSets.{Literal}
+use Rattle.formula.specs.Formula.{Monomial, False, And, at-start}
 use Rattle.search.specs.Search.{Answer, To, None, Graph, count, edge}
 use Rattle.abstraction.specs.Abstraction.{applies, start, successor}
 use Rattle.abstraction.specs.Faithful.{literalsAt, Leads, Faithful}

@@ -12,14 +12,15 @@ use borrow.Author.Tests.{eqb-true}
 use Rattle.integers.proofs.Tests.{and-true, or-true, false-true}
 use Rattle.grammar.specs.Programs.{Program}
 use Rattle.grammar.specs.WellFormed.{Each, WellFormed}
-use Rattle.runs.specs.Runs.{Inside, newState, actionOf}
-use Rattle.lemmas.specs.Lemmas.{Goal, CannotHappen, HoldsAfter, FailsAfter, goalNumber, Lemma, predicate, accepted}
+use Rattle.runs.specs.Runs.{Inside, newState, actionOf, predicate}
+use Rattle.lemmas.specs.Lemmas.{Goal, CannotHappen, HoldsAfter, FailsAfter, goalNumber, Lemma, accepted}
 use Rattle.lemmas.specs.LemmaGrammar.{LemmaOk}
 use Rattle.lemmas.specs.Truth.{happens, Claim}
 use Rattle.lemmas.proofs.LemmaLaws.{same-goal}
 use Rattle.lemmas.proofs.Sound.{accepted-true}
-use Rattle.formula.specs.Formula.{Literal, B, NotB, Monomial, False, And, Fact, Then, and, conjunct, conjuncts}
-use Rattle.abstraction.specs.Abstraction.{literalsIn, allAmong, lemmaApplies, applies, shown, successor}
+use Rattle.words.specs.LiteralSets.{Literal, B, NotB, literalsIn}
+use Rattle.formula.specs.Formula.{Monomial, False, And, Fact, Then, and, conjunct, conjuncts}
+use Rattle.abstraction.specs.Abstraction.{allAmong, lemmaApplies, applies, shown, successor}
 use Rattle.safety.proofs.Literals.{TrueAt, Right, each-append, all-among-each, met}
 
 -- a monomial is true at a state: it is not false, and its literals are true there

@@ -18,13 +18,12 @@ use Rattle.integers.proofs.Tests.{or-true}
 use Rattle.words.specs.Words.{noLiterals}
 use Rattle.words.specs.declared.Literals.{Literals}
 use Rattle.grammar.specs.WellFormed.{Each, LiteralsOk}
-use Rattle.runs.specs.Runs.{has}
 use Rattle.sets.specs.Sets.{Member, clashes}
 use Rattle.sets.proofs.Laws.{clashes-is}
 use Rattle.gather.proofs.Shown.{never}
 use Rattle.search.proofs.Count.{lt-or-le}
-use Rattle.formula.specs.Formula.{Literal, B, NotB}
-use Rattle.abstraction.specs.Abstraction.{literalIf, literalsIn, sameLiteral, among}
+use Rattle.words.specs.LiteralSets.{Literal, B, NotB, literalIf, literalsIn, has}
+use Rattle.abstraction.specs.Abstraction.{sameLiteral, among}
 use Rattle.verdict.specs.Verdicts.{Finding, Forbid, opposite, contradicted, forbids}
 use Rattle.verdict.specs.declared.Found.the-variants.{Forbid as MayForbid}
 use Rattle.verdict.specs.Working.{foundOf, firstFree}

@@ -16,7 +16,7 @@ use Rattle.integers.proofs.Tests.{or-true}
 use Rattle.grammar.specs.Programs.{Assignment, Action, Program}
 use Rattle.grammar.specs.WellFormed.{Rising, WellFormed}
 use Rattle.actions.specs.Results.{marked, noMarks}
-use Rattle.runs.specs.Runs.{has, actionOf}
+use Rattle.runs.specs.Runs.{actionOf}
 use Rattle.lemmas.specs.Lemmas.{Goal, NotBelow, NotAbove, goalNumber, Lemma}
 use Rattle.lemmas.specs.LemmaGrammar.{setsVariable}
 use Rattle.lemmas.proofs.LemmaLaws.{action-rising}
@@ -26,7 +26,8 @@ use Rattle.sets.proofs.Bits.{bit-zero}
 use Rattle.gather.specs.Gathering.{Placed, low-end, high-end, Entry, placeOf, gathered, successorOf, askEnds, firstMissing}
 use Rattle.gather.proofs.Shown.{never, ask-is, missing-is}
 use Rattle.search.proofs.Count.{lt-or-le, eq-or-ne}
-use Rattle.abstraction.specs.Abstraction.{literalsIn, applies}
+use Rattle.words.specs.LiteralSets.{literalsIn, has}
+use Rattle.abstraction.specs.Abstraction.{applies}
 use Rattle.verdict.specs.Verdicts.{Finding, ends}
 use Rattle.verdict.specs.declared.Found.the-variants.{Nothing}
 use Rattle.verdict.specs.declared.Found.the-variants.{RunOff as MayRunOff}

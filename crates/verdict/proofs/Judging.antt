@@ -17,14 +17,14 @@ use Rattle.words.specs.declared.Literals.{Literals}
 use Rattle.grammar.specs.Programs.{Action, Program}
 use Rattle.programs.specs.declared.Image.{Image}
 use Rattle.programs.proofs.Places.{noneAction}
-use Rattle.runs.specs.Runs.{has}
 use Rattle.lemmas.specs.Lemmas.{Goal, goalNumber, Lemma}
 use Rattle.lemmas.specs.Sources.{theProgram, Held}
 use Rattle.gather.specs.Gathering.{Placed, Entry, Table, placeOf, gathered, successorOf, firstMissing}
 use Rattle.search.specs.Search.{Graph, Done, count, nodeWord}
 use Rattle.records.specs.Records.{graphWords, recordPlace, graphList}
 use Rattle.records.proofs.Listed.{record-at}
-use Rattle.abstraction.specs.Abstraction.{literalsIn, applies, successor}
+use Rattle.words.specs.LiteralSets.{literalsIn, has}
+use Rattle.abstraction.specs.Abstraction.{applies, successor}
 use Rattle.abstraction.specs.Faithful.{literalsAt}
 use Rattle.verdict.specs.Verdicts.{Finding, Forbid, RunOff, ends, hasNext, runsOff, findingsAt, findingsFrom, findings}
 use Rattle.verdict.specs.declared.Found.{Found}

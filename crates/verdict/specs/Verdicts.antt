@@ -18,11 +18,12 @@ use Rattle.words.specs.Words.{word}
 use Rattle.words.specs.declared.Literals.{Literals}
 use Rattle.grammar.specs.Programs.{Assignment, Action, Program}
 use Rattle.lemmas.specs.Lemmas.{Goal, NotBelow, NotAbove, Lemma}
-use Rattle.formula.specs.Formula.{Literal, B, NotB, Monomial, False, And}
+use Rattle.words.specs.LiteralSets.{Literal, B, NotB, literalsIn}
+use Rattle.formula.specs.Formula.{Monomial, False, And}
 use Rattle.search.specs.Search.{Graph, count}
 use Rattle.search.specs.Paths.{path}
 use Rattle.records.specs.Records.{mostNodes}
-use Rattle.abstraction.specs.Abstraction.{literalsIn, among, applies, successor}
+use Rattle.abstraction.specs.Abstraction.{among, applies, successor}
 use Rattle.abstraction.specs.Faithful.{literalsAt}
 
 -- node and combination; node, action, variable, and whether it is the high end

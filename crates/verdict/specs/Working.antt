@@ -22,7 +22,6 @@ use Rattle.words.specs.declared.Literals.{Literals}
 use Rattle.grammar.specs.Programs.{Action, Program}
 use Rattle.grammar.specs.WellFormed.{WellFormed}
 use Rattle.actions.specs.Results.{marked, noMarks}
-use Rattle.runs.specs.Runs.{has}
 use Rattle.lemmas.specs.Lemmas.{Goal, goalNumber, Lemma}
 use Rattle.sets.specs.Sets.{clashes}
 use Rattle.gather.specs.Gathering.{Placed, Entry, placeOf, gathered, successorOf, askEnds, firstMissing}
@@ -31,7 +30,8 @@ use Rattle.gather.specs.declared.Successor.the-variants.{Set}
 use Rattle.gather.specs.declared.Successor.the-variants.{Nothing as NoSet}
 use Rattle.search.specs.Search.{Origin, Root, From, Graph, Done, count, origin}
 use Rattle.records.specs.Records.{originWord, mostNodes, recordPlace, graphList}
-use Rattle.abstraction.specs.Abstraction.{literalsIn, applies, successor}
+use Rattle.words.specs.LiteralSets.{literalsIn, has}
+use Rattle.abstraction.specs.Abstraction.{applies, successor}
 use Rattle.verdict.specs.Verdicts.{Finding, Forbid, RunOff, hasNext}
 use Rattle.verdict.specs.declared.Found.{Found}
 use Rattle.verdict.specs.declared.Found.the-variants.{Nothing}

@@ -22,7 +22,6 @@ use Rattle.grammar.specs.Grammar.{program, ranges, rows, end, coefs, row, assig
 use Rattle.actions.specs.Results.{assigned}
 use Rattle.programs.specs.Calls.{read, check}
 use Rattle.programs.specs.declared.Checked.the-variants.{Good, Refused}
-use Rattle.runs.specs.Runs.{literalRows}
 use Rattle.sums.specs.Sums.{plusTimes, combine}
 use Rattle.lemmas.specs.Lemmas.{Lemma}
 use Rattle.lemmas.specs.LemmaGrammar.{readLemmas, setsVariable, lemma, list}
@@ -32,7 +31,8 @@ use Rattle.formula.specs.Formula.{conjuncts}
 use Rattle.search.specs.Search.{linksIn, turns, run, explored}
 use Rattle.search.specs.Paths.{back}
 use Rattle.records.specs.Records.{graphWords, edgeRow, recordsOf}
-use Rattle.abstraction.specs.Abstraction.{literalsIn, among, allAmong, applies, setOf}
+use Rattle.words.specs.LiteralSets.{literalsIn, setOf}
+use Rattle.abstraction.specs.Abstraction.{among, allAmong, applies}
 use Rattle.tables.specs.Tabled.{firstOff}
 use Rattle.verdict.specs.Verdicts.{pathWords, contradicted, forbids, runsOff, findingsFrom}
 use Rattle.verdict.specs.Verdicts.{ends as rangeEnds}
@@ -112,7 +112,7 @@ pub record Table : Type 0 where
 
 pub worked : Table
 unfolding
-    program ranges rows end coefs row assignment sets action due one times many setsVariable lemma list assigned plusTimes combine literalRows
+    program ranges rows end coefs row assignment sets action due one times many setsVariable lemma list assigned plusTimes combine
     dot ends firstOff conjuncts explored run turns linksIn literalsIn among allAmong applies setOf contradicted forbids runsOff rangeEnds
     findingsFrom edgeRow recordsOf back
 worked =

@@ -3,7 +3,7 @@ use mathlib.Core.List.{List, _++_}
 use native.Mathlib.Omega.{arith}
 use lib.ListN.{take, length-append}
 use Rattle.rows.specs.declared.Row.{Row}
-use Rattle.runs.specs.Runs.{rowIf, literalRows}
+use Rattle.runs.specs.Values.{rowIf, premiseRows}
 use Rattle.acceptance.proofs.Laws.{nothing, nothing-room, used-then, goal-fits, goal-fine, fine-small, whole-sum}
 use Rattle.acceptance.proofs.lemma_sum.Statement.{statement}
 use Rattle.acceptance.proofs.lemma_sum.Tie as tie
@@ -13,7 +13,7 @@ abbrev goals : tie.Start → List Row
 goals s = rowIf (s .args .goal) (s .args .q)
 
 abbrev premises : tie.Start → List Row
-premises s = literalRows 0 (take (s .args .np) (s .args .preds)) (s .args .set)
+premises s = premiseRows 0 (take (s .args .np) (s .args .preds)) (s .args .set)
 
 abbrev sources : tie.Start → List Row
 sources s = take (s .args .n) (s .args .rows)
