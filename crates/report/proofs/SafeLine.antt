@@ -12,7 +12,7 @@ use Rattle.grammar.specs.Programs.{Program}
 use Rattle.programs.specs.Calls.{read}
 use Rattle.records.specs.Records.{graphWords}
 use Rattle.verdict.specs.Verdicts.{pathWords}
-use Rattle.judge.specs.Calls.{SafeOf}
+use Rattle.judge.specs.Worth.{SafeOf}
 use Rattle.judge.specs.declared.Judged.{Judged}
 use Rattle.judge.specs.declared.Judged.the-variants.{MayForbid, MayRunOff, Refused}
 use Rattle.judge.specs.declared.Judged.the-variants.{Safe as IsSafe}
