@@ -32,7 +32,7 @@ use Rattle.judge.specs.Calls.{Judgement, keep, verdict, pathTo, judgeGra
 use Rattle.judge.specs.Worth.{OfRead, Drawn, Walked, Demand2Of, SafeOf}
 use Rattle.judge.specs.declared.Judged.the-variants.{Refused}
 use Rattle.judge.specs.declared.Judged.the-variants.{Safe as IsSafe}
-use Rattle.judge.proofs.Walks.{findings-within, steps-walk}
+use Rattle.judge.proofs.Walks.{findings-within, graph-few, steps-walk}
 
 -- ---- demand 2
 -- of a judgement, with the two lists at entry
@@ -63,7 +63,7 @@ module _ (ws lemmas gl pl : List ℕ) where
         drawn : Drawn p ls g (count g) (links g) gl (graphList (length (p .actions)) (Done g) gl)
         drawn =
             let d : Demand2 p ls (Done g) = rw e at (demand2 p ok ls good) in
-            record { faithful = d .0; enough = d .1; nodes-are = refl; edges-are = refl; records = refl }
+            record { faithful = d .0; enough = d .1; few = graph-few p ls g e; nodes-are = refl; edges-are = refl; records = refl }
 
         walked : (k : ℕ) → k < count g → Walked p g k pl (pathList (stepsTo g k) pl)
         walked k h = record { steps = stepsTo g k; walk = steps-walk p ls g e k h; words = refl }

@@ -2,7 +2,7 @@
 use mathlib.Core.Path.{_≡_, refl}
 use mathlib.Core.Bool.{Bool, true, false, cond}
 use mathlib.Core.List.{List, [], _∷_, _++_}
-use Prim.Native.Nat.{ℕ, zero, suc, _+_, _<_}
+use Prim.Native.Nat.{ℕ, zero, suc, _+_, _<_, _≤_}
 use native.Mathlib.Omega.{arith}
 use lib.ListN.{length}
 use Rattle.words.specs.declared.Literals.{Literals}
@@ -13,7 +13,7 @@ use Rattle.words.specs.Words.{payload}
 use Rattle.words.specs.LiteralSets.{Literal, literalsIn}
 use Rattle.search.specs.Search.{Answer, Graph, Done, count}
 use Rattle.search.specs.Paths.{Walk}
-use Rattle.search.proofs.Theorem.{whole}
+use Rattle.search.proofs.Theorem.{Whole, whole}
 use Rattle.search.proofs.Paths.{path-in-graph}
 use Rattle.records.specs.Records.{mostNodes}
 use Rattle.abstraction.specs.Abstraction.{applies, successor, start, answer, graph}
@@ -83,7 +83,12 @@ module _ (p : Program) (ls : List Lemma) (g : Graph) where
   findings-within = each-weaken (λ f. nodeOf f < 0 + count g) (λ f. nodeOf f < count g) (λ f e. omega (arith, e)) (findings p ls g) (within-from 0 (count g))
 
   -- ---- the path to a node
-  pub steps-walk : graph p ls ≡ Done g → (k : ℕ) → k < count g → Walk (length (p .actions)) g 0 (stepsTo g k) k
-  steps-walk e k h =
-      let w = whole (answer (start p ls)) (next p ls) (length (p .actions)) mostNodes g e in
-      path-in-graph (answer (start p ls)) (next p ls) (length (p .actions)) mostNodes g w mostNodes k (omega (arith, w .within, h)) h
+  module _ (e : graph p ls ≡ Done g) where
+    known : Whole (answer (start p ls)) (next p ls) (length (p .actions)) mostNodes g
+    known = whole (answer (start p ls)) (next p ls) (length (p .actions)) mostNodes g e
+
+    pub graph-few : count g ≤ mostNodes
+    graph-few = known .within
+
+    pub steps-walk : (k : ℕ) → k < count g → Walk (length (p .actions)) g 0 (stepsTo g k) k
+    steps-walk k h = path-in-graph (answer (start p ls)) (next p ls) (length (p .actions)) mostNodes g known mostNodes k (omega (arith, graph-few, h)) h

@@ -1,14 +1,14 @@
 -- What Judge's answer, with what it leaves in the two lent lists, is worth.
 --
 -- OfList, OfRead — a claim about the program and the lemmas that two lists of words are
--- Drawn     — a list holds the records of a graph that is formula (3)'s, with these counts, and 512 nodes are enough
+-- Drawn     — a list holds the records of a graph that is formula (3)'s, with these counts; 512 nodes are enough
 -- Walked    — a list holds the steps of a walk in a graph from node 0 to a node
 -- Shown     — the first, of the words that were read; ShownPath, both
 -- Demand2Of — of an answer: a verdict leaves the graph with its counts, and a finding the walk to its node; refusal 7 says that too many are reachable
 -- SafeOf    — demand 3, of the program that the words are
 use mathlib.Core.Path.{_≡_}
 use mathlib.Core.List.{List}
-use Prim.Native.Nat.{ℕ}
+use Prim.Native.Nat.{ℕ, _≤_}
 use lib.ListN.{length}
 use Rattle.words.specs.declared.Refusal.the-variants.{Nodes}
 use Rattle.grammar.specs.Reading.{Read, got, refused}
@@ -19,7 +19,7 @@ use Rattle.lemmas.specs.Lemmas.{Lemma}
 use Rattle.lemmas.specs.LemmaGrammar.{readLemmas}
 use Rattle.search.specs.Search.{Graph, Done, count, links}
 use Rattle.search.specs.Paths.{Walk}
-use Rattle.records.specs.Records.{graphList}
+use Rattle.records.specs.Records.{mostNodes, graphList}
 use Rattle.abstraction.specs.Faithful.{Faithful, TooMany}
 use Rattle.verdict.specs.Verdicts.{pathList}
 use Rattle.judge.specs.declared.Judged.{Judged}
@@ -39,6 +39,7 @@ OfRead P (refused r) lemmas = ⊥
 pub record Drawn (p : Program) (ls : List Lemma) (g : Graph) (nodes edges : ℕ) (before after : List ℕ) : Type 0 where
   pub faithful : Faithful p ls g
   pub enough : TooMany p ls → ⊥
+  pub few : count g ≤ mostNodes
   pub nodes-are : nodes ≡ count g
   pub edges-are : edges ≡ links g
   pub records : after ≡ graphList (length (p .actions)) (Done g) before

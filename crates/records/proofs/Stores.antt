@@ -23,7 +23,7 @@ abbrev pub leads : Answer → ℕ
 leads (To m) = 1
 leads None = 0
 
-links-more : (es : List Answer) (y : Answer) → linksIn (es ++ (y ∷ [])) ≡ linksIn es + leads y
+pub links-more : (es : List Answer) (y : Answer) → linksIn (es ++ (y ∷ [])) ≡ linksIn es + leads y
 unfolding linksIn
 links-more [] (To m) = refl
 links-more [] None = refl
