@@ -71,25 +71,6 @@ pub fn clear(list: &mut [u32], n: usize)
     }
 }
 
-// The first of n nodes whose word is w, or n.
-fn find(graph: &[u32], n: usize, actions: usize, w: u32) -> usize
-    requires { ⌜ (graphWords ≤ length (now graph)) × (n ≤ mostNodes) × (actions ≤ 16) ⌝ }
-    ensures { λ r. ⌜ r ≡ seek w (column (now (graph .entry)) actions 0 n) ⌝ }
-{
-    let step = HEADER + actions;
-    let mut i: usize = 0;
-    let at = loop {
-        if n <= i {
-            break i;
-        }
-        if graph[i * step] == w {
-            break i;
-        }
-        i += 1;
-    };
-    at
-}
-
 // Where the table of hints speaks of the word w. Any factor would do; with this one few sets of literals share a place.
 fn hint_place(w: u32) -> usize
     ensures { λ r. ⌜ r < hintCount ⌝ }
@@ -97,18 +78,29 @@ fn hint_place(w: u32) -> usize
     (w as u64 * 3116128017 / 1048576 % 4096) as usize
 }
 
-// The same, asking first where the hints say; they may say anything. Where all words differ, a word that is found is found first.
-fn find_near(graph: &[u32], hints: &[u16], n: usize, actions: usize, w: u32) -> usize
-    requires { ⌜ (graphWords ≤ length (now graph)) × (hintCount ≤ length (now hints)) × (n ≤ mostNodes) × (actions ≤ 16) ⌝ }
-    ensures { λ r. ⌜ (Firsts (column (now (graph .entry)) actions 0 n) → r ≡ seek w (column (now (graph .entry)) actions 0 n)) ⌝ }
+// Which of n nodes has the word w, or n: the first one tried is the hint's, which may be any, then all from the last one down. Where all words
+// differ, the one that is found is the first.
+fn find(graph: &[u32], hints: &[u16], n: usize, actions: usize, w: u32) -> usize
+    requires { ⌜ (graphWords ≤ length (now graph)) × (hintCount ≤ length (now hints)) × (0 < n) × (n ≤ mostNodes) × (actions ≤ 16) ⌝ }
+    ensures { λ r. ⌜ (r ≤ n) × (Firsts (column (now (graph .entry)) actions 0 n) → r ≡ seek w (column (now (graph .entry)) actions 0 n)) ⌝ }
 {
-    let h = (hints[hint_place(w)] % 512) as usize;
-    if h < n {
-        if graph[h * (HEADER + actions)] == w {
-            return h;
-        }
+    let step = HEADER + actions;
+    let mut i = hints[hint_place(w)] as usize;
+    if n <= i {
+        i = 0;
     }
-    find(graph, n, actions, w)
+    let mut left = n;
+    let at = loop {
+        if graph[i * step] == w {
+            break i;
+        }
+        if left == 0 {
+            break n;
+        }
+        left -= 1;
+        i = left;
+    };
+    at
 }
 
 // The word of node k.
@@ -161,9 +153,9 @@ pub fn enter(
     ensures turn { λ r. ⌜ Turned (λ h. answered mostNodes h (From k j) (To w)) (now (graph .entry)) actions nodes edges (k * actions + j) r (now (graph .exit)) (k * actions + j + 1) ⌝ }
     ensures hints { λ _. ⌜ hintCount ≤ length (now (hints .exit)) ⌝ }
 {
-    let at = find_near(&graph[..], &hints[..], nodes, actions, w);
+    let at = find(&graph[..], &hints[..], nodes, actions, w);
     let known = hint_place(w);
-    hints[known] = (at % 512) as u16;
+    hints[known] = at as u16;
     let place = edge_place(actions, k, j);
     if at < nodes {
         graph[place] = edge_word(at);
