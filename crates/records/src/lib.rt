@@ -46,8 +46,7 @@ fn edge_word(m: usize) -> u32
     requires { ⌜ m < mostNodes ⌝ }
     ensures { λ r. ⌜ r ≡ edgeWord (To m) ⌝ }
 {
-    let kind = Kind::EDGE;
-    kind.0 * 268435456 + m as u32
+    Kind::EDGE.word(m as u32)
 }
 
 // The word of a node's origin: node k, by action j.
@@ -55,8 +54,14 @@ fn origin_word(k: usize, j: usize) -> u32
     requires { ⌜ (k < mostNodes) × (j < 16) ⌝ }
     ensures { λ r. ⌜ r ≡ originWord (From k j) ⌝ }
 {
-    let kind = Kind::ORIGIN;
-    kind.0 * 268435456 + (k as u32 * 16 + j as u32)
+    Kind::ORIGIN.word(k as u32 * 16 + j as u32)
+}
+
+// The word of the origin of node 0.
+pub fn root_word() -> u32
+    ensures { λ r. ⌜ r ≡ originWord Root ⌝ }
+{
+    Kind::ORIGIN.word(words::NO_PARENT)
 }
 
 // The first n words become zero.
@@ -118,7 +123,7 @@ pub fn begin(graph: &mut [u32], w: u32)
     ensures { λ _. ⌜ now (graph .exit) ≡ set (set (now (graph .entry)) 0 w) 1 (originWord Root) ⌝ }
 {
     graph[0] = w;
-    graph[1] = 0xB000_1FFF;
+    graph[1] = root_word();
 }
 
 // Action j has no successor at node k.
@@ -134,7 +139,7 @@ pub fn enter_none(
     ensures { λ r. ⌜ Turned (λ h. answered mostNodes h (From k j) None) (now (graph .entry)) actions nodes edges (k * actions + j) r (now (graph .exit)) (k * actions + j + 1) ⌝ }
 {
     let place = edge_place(actions, k, j);
-    graph[place] = 0xCFFF_FFFF;
+    graph[place] = Kind::EDGE.word(words::NO_NODE);
     Explored::Whole(nodes, edges)
 }
 

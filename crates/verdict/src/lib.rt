@@ -3,17 +3,18 @@ ghost use mathlib.Core.Path.{_≡_};
 ghost use mathlib.Core.List.{List, [], _++_, map, reverse};
 ghost use Prim.Native.Nat.{ℕ, _+_, _/_, _%_, _^_, _<_, _≤_};
 ghost use lib.ListN.{length, drop, take};
-ghost use Rattle.words.specs.Words.{word};
+ghost use Rattle.words.specs.Words.{word, STEP};
 ghost use Rattle.grammar.specs.Programs.{Program};
 ghost use Rattle.lemmas.specs.Lemmas.{Lemma};
 ghost use Rattle.lemmas.specs.Sources.{theProgram, Held};
 ghost use Rattle.gather.specs.Gathering.{entries, successorOf};
 ghost use Rattle.search.specs.Search.{Graph, Done, count};
 ghost use Rattle.records.specs.Records.{mostNodes, graphWords, graphList};
-ghost use Rattle.verdict.specs.Verdicts.{findingsAt, findings, STEP, pathWords, pathList, stepsTo};
+ghost use Rattle.verdict.specs.Verdicts.{findingsAt, findings, pathWords, pathList, stepsTo};
 ghost use Rattle.verdict.specs.Working.{originAt, backAt, Traced, endsTo, askedEnds, foundOf, Within, firstFree, given, firstUnshown, Judging};
 use gather::Successor;
 use programs::Image;
+use words::Kind;
 use words::Literals;
 
 // How many words the path has room in.
@@ -44,7 +45,7 @@ fn count_steps(graph: &[u32], actions: usize, node: usize) -> usize
     let mut d: usize = 0;
     while d < 512 {
         let o = origin_at(graph, actions, k);
-        if o == 0xB000_1FFF {
+        if o == records::root_word() {
             return d;
         }
         k = parent(o);
@@ -63,7 +64,7 @@ fn write_steps(graph: &[u32], actions: usize, node: usize, d: usize, path: &mut 
     while 0 < i {
         let o = origin_at(graph, actions, k);
         i -= 1;
-        path[i] = 0xD000_0000 + o % 16;
+        path[i] = Kind::STEP.word(o % 16);
         k = parent(o);
     }
 }

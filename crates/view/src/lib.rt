@@ -28,7 +28,7 @@ fn edge_of(w: u32, at: usize) -> Viewed
         return Viewed::Refused(Refusal::Word(at));
     }
     let to = words::count(w);
-    if to == 0xFFF_FFFF {
+    if to == words::NO_NODE as usize {
         return Viewed::None;
     }
     Viewed::Node(to)
