@@ -4,7 +4,7 @@ ghost use mathlib.Core.List.{_++_};
 ghost use Prim.Native.Nat.{_+_, _*_, _<_, _≤_};
 ghost use lib.ListN.{length, drop, getD, set, replicate};
 ghost use Rattle.search.specs.Search.{To, None, Root, From, seek, answered};
-ghost use Rattle.records.specs.Records.{edgeWord, originWord, mostNodes, graphWords, stride, recordPlace, edgePlace};
+ghost use Rattle.records.specs.Records.{edgeWord, originWord, mostNodes, header, graphWords, originOffset, stride, recordPlace, edgePlace};
 ghost use Rattle.records.specs.Steps.{column, hintCount, Firsts, Turned};
 use words::Kind;
 
@@ -19,11 +19,11 @@ pub enum Explored {
 // How many words of a record come before its edges: the node's word and its origin.
 const HEADER: usize = 2;
 
-// The most nodes that there may be.
-const NODES: usize = 512;
+// Where in a record the origin stands.
+pub const ORIGIN_OFFSET: usize = 1;
 
 // How many words the records have room in.
-pub const ROOM: usize = 9216;
+pub const ROOM: usize = words::NODES * (HEADER + words::ACTIONS);
 
 // Where the record of node k begins.
 pub fn record_place(actions: usize, k: usize) -> usize
@@ -119,11 +119,11 @@ pub fn word_at(graph: &[u32], actions: usize, k: usize) -> u32
 
 // Node 0, as yet without edges.
 pub fn begin(graph: &mut [u32], w: u32)
-    requires { ⌜ 2 ≤ length (now graph) ⌝ }
-    ensures { λ _. ⌜ now (graph .exit) ≡ set (set (now (graph .entry)) 0 w) 1 (originWord Root) ⌝ }
+    requires { ⌜ header ≤ length (now graph) ⌝ }
+    ensures { λ _. ⌜ now (graph .exit) ≡ set (set (now (graph .entry)) 0 w) originOffset (originWord Root) ⌝ }
 {
     graph[0] = w;
-    graph[1] = root_word();
+    graph[ORIGIN_OFFSET] = root_word();
 }
 
 // Action j has no successor at node k.
@@ -166,12 +166,12 @@ pub fn enter(
         graph[place] = edge_word(at);
         return Explored::Whole(nodes, edges + 1);
     }
-    if nodes == NODES {
+    if nodes == words::NODES {
         return Explored::Full;
     }
     let new = record_place(actions, nodes);
     graph[new] = w;
-    graph[new + 1] = origin_word(k, j);
+    graph[new + ORIGIN_OFFSET] = origin_word(k, j);
     graph[place] = edge_word(nodes);
     Explored::Whole(nodes + 1, edges + 1)
 }

@@ -9,13 +9,14 @@
 -- runsOff   — those ends, of the actions from j on that have a successor at a node with the literals m
 -- findingsAt, findingsFrom, findings — at node k; from node k on; of the graph
 -- nodeOf    — the node of a finding
--- pathWords, pathList — how many words a path has room in; the path in its list: STEP words, then zeros up to there, then what was there
+-- pathList  — the path in its list: STEP words, then zeros up to its room, then what was there
 -- stepsTo   — the steps to node k
 use mathlib.Core.Bool.{Bool, true, false, cond, _||_}
 use mathlib.Core.List.{List, [], _∷_, _++_, map}
 use Prim.Native.Nat.{ℕ, zero, suc, _-_}
 use lib.ListN.{length, drop, replicate}
 use Rattle.words.specs.Words.{word, STEP}
+pub use Rattle.words.specs.Limits.{pathWords}
 use Rattle.words.specs.declared.Literals.{Literals}
 use Rattle.grammar.specs.Programs.{Assignment, Action, Program}
 use Rattle.lemmas.specs.Lemmas.{Goal, NotBelow, NotAbove, Lemma}
@@ -78,9 +79,6 @@ findings p ls g = findingsFrom p ls g 0 (count g)
 abbrev pub nodeOf : Finding → ℕ
 nodeOf (Forbid k b) = k
 nodeOf (RunOff k j v high) = k
-
-abbrev pub pathWords : ℕ
-pathWords = 512
 
 -- The STEP words from node 0 to the node, at the front of the path list, the rest of its first 512 words zero.
 abbrev pub pathList : List ℕ → List ℕ → List ℕ

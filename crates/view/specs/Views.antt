@@ -9,6 +9,7 @@ use mathlib.Core.List.{List}
 use lib.ListN.{length, getD}
 use lib.Dec.{ltb, leb, eqb}
 use Rattle.words.specs.Words.{kindOf, payload, EDGE, noNode}
+use Rattle.words.specs.Limits.{mostActions}
 use Rattle.words.specs.declared.Refusal.the-variants.{Short, Word, Limit, Absent}
 use Rattle.search.specs.Search.{Answer, To}
 use Rattle.search.specs.Search.{None as Nowhere}
@@ -23,7 +24,7 @@ edgeOf w at = cond (eqb (kindOf w) EDGE) (cond (eqb (payload w) noNode) None (No
 unfoldable pub viewed : List ℕ → ℕ → ℕ → ℕ → ℕ → Viewed
 viewed l nodes actions node action =
     cond (ltb mostNodes nodes) (Refused (Limit 0))
-    (cond (ltb 16 actions) (Refused (Limit 0))
+    (cond (ltb mostActions actions) (Refused (Limit 0))
     (cond (ltb (length l) (recordPlace actions nodes)) (Refused (Short 0))
     (cond (leb nodes node) (Refused (Absent node))
     (cond (leb actions action) (Refused (Absent action))

@@ -44,10 +44,10 @@ pub fn successor_at(
 ) -> Viewed
     ensures { λ r. ⌜ r ≡ viewed (now (graph .entry)) nodes actions node action ⌝ }
 {
-    if 512 < nodes {
+    if words::NODES < nodes {
         return Viewed::Refused(Refusal::Limit(0));
     }
-    if 16 < actions {
+    if words::ACTIONS < actions {
         return Viewed::Refused(Refusal::Limit(0));
     }
     // A record is as long as the place where the second one begins.

@@ -5,6 +5,12 @@ ghost use lib.Dec.{eqb};
 ghost use Rattle.words.specs.Words.{bits, signed, signedBy, kindOf, payload, word, literals, literalsOf};
 ghost use Rattle.words.specs.Refusals.{number, value};
 
+// The most actions of a program.
+pub const ACTIONS: usize = 16;
+
+// The most nodes of a graph.
+pub const NODES: usize = 512;
+
 // How many payloads there are: a payload has 28 bits.
 const PAYLOADS: u32 = 268435456;
 
@@ -236,7 +242,7 @@ pub fn value_of(r: Refusal) -> usize
         Refusal::Value(n) => n,
         Refusal::Lemma(n) => n,
         Refusal::Lemmas(n) => n,
-        Refusal::Nodes => 512,
+        Refusal::Nodes => NODES,
         Refusal::Absent(n) => n,
         Refusal::Length(n) => n,
         Refusal::State(n) => n,
