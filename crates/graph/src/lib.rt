@@ -128,7 +128,13 @@ pub fn explore(
     ensures { λ r. ⌜ (r ≡ exploredOf (graphOf (entries (now (premises .entry)) (now (keys .entry)) n) actions)) × (now (graph .exit) ≡ graphList actions (graphOf (entries (now (premises .entry)) (now (keys .entry)) n) actions) (now (graph .entry))) ⌝ }
 {
     records::clear(&mut *graph, records::ROOM);
-    let next = gather::successor_of(gather::gather(premises, keys, n, 255, Literals::EMPTY.0));
+    let next = gather::successor_of(gather::gather(
+        premises,
+        keys,
+        n,
+        words::START,
+        Literals::EMPTY.0,
+    ));
     match next {
         Successor::Set(set) => {
             let w = node_word(set);

@@ -2,12 +2,14 @@
 --
 -- mostVariables, mostRows, mostPredicates, mostActions, mostForbidden — how many of them a program may have; the rows are those of
 --                            the start or of a guard, and an action has no more assignments than that
--- mostConstant, mostCoefficient, mostMultiplier — how large a row's constant, its coefficients and a lemma's multipliers may be
+-- leastConstant, mostConstant, leastCoefficient, mostCoefficient — from -1,000,000 to 1,000,000; from -1,000 to 1,000
+-- mostMultiplier           — how large a lemma's multipliers may be
 -- START                    — the source that stands for the start
 -- mostLemmas, mostNodes    — how many lemmas a list may have; how many nodes a graph
 -- header                   — how many words of a node's record come before its edges: its literals and its origin
 -- graphWords, pathWords    — how many words the records of a graph have room in, and the steps of a path
 use Prim.Native.Nat.{ℕ, _+_, _*_}
+use lib.IntN.{ℤ, pos, negsuc}
 
 abbrev pub mostVariables : ℕ
 mostVariables = 8
@@ -24,15 +26,22 @@ mostActions = 16
 abbrev pub mostForbidden : ℕ
 mostForbidden = 8
 
-abbrev pub mostConstant : ℕ
-mostConstant = 1000000
+abbrev pub leastConstant : ℤ
+leastConstant = negsuc 999999
 
-abbrev pub mostCoefficient : ℕ
-mostCoefficient = 1000
+abbrev pub mostConstant : ℤ
+mostConstant = pos 1000000
+
+abbrev pub leastCoefficient : ℤ
+leastCoefficient = negsuc 999
+
+abbrev pub mostCoefficient : ℤ
+mostCoefficient = pos 1000
 
 abbrev pub mostMultiplier : ℕ
 mostMultiplier = 65535
 
+-- Source is an action, or 255 for the start.
 abbrev pub START : ℕ
 START = 255
 

@@ -8,6 +8,9 @@ ghost use Rattle.words.specs.Refusals.{number, value};
 // The most actions of a program.
 pub const ACTIONS: usize = 16;
 
+// The source of a lemma that stands for the start.
+pub const START: u32 = 255;
+
 // The most nodes of a graph.
 pub const NODES: usize = 512;
 
