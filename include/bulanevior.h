@@ -20,7 +20,7 @@
  *  - The call returns, with the answer that its definition gives: crates/exports/src/lib.rt has the contracts, which the prover has
  *    checked and which ask for nothing more than the above, crates/exports/specs/Numbers.antt the definitions.
  *  - Const lists are only read. Other lists are written as said below and no further: words of a graph list past the first
- *    9,216 and of a path list past the first 512 never change.
+ *    BNV_GRAPH_WORDS and of a path list past the first BNV_PATH_WORDS never change.
  *  - Nothing is allocated, no state is kept between calls, and no file, clock or other device is touched. Calls with lists of their
  *    own may run at the same time.
  *
@@ -59,26 +59,32 @@ _Static_assert(sizeof(size_t) == 8, "64-bit numbers only");
 #define BNV_STEP 13u  /* an action of a path */
 #define BNV_END 15u   /* the end of the logic */
 
+/* ---- A graph: the most nodes and actions, and how many words of a node's record, SETS and ORIGIN, come before its EDGE words. */
+
+#define BNV_MOST_NODES 512u
+#define BNV_MOST_ACTIONS 16u
+#define BNV_HEADER_WORDS 2u
+
 /* ---- Lent lists of bnv_judge: the words that they need at least, and the only ones that are ever written. */
 
-#define BNV_GRAPH_WORDS 9216u
+#define BNV_GRAPH_WORDS (BNV_MOST_NODES * (BNV_HEADER_WORDS + BNV_MOST_ACTIONS)) /* 9,216 */
 #define BNV_PATH_WORDS 512u
 
 /*
  * ---- Refusals: the number in `refusal`; what `value` holds stands behind it. 0 in `refusal` is no refusal.
  *
- * A refusal leaves every lent list as it was, but BNV_REFUSED_NODES, which zeroes the first 9,216 words of the graph list.
+ * A refusal leaves every lent list as it was, but BNV_REFUSED_NODES, which zeroes the first BNV_GRAPH_WORDS words of the graph list.
  */
 
 #define BNV_REFUSED_SHORT 1u  /* a lent list is too short: 0 the graph list, also the one of bnv_successor; 1 the path list */
 #define BNV_REFUSED_WORD 2u   /* a program word missing, of the wrong kind, after END, or with an unnamed bit: its index, the list's
                                  length if missing; bnv_successor: the word at that index is no EDGE */
 #define BNV_REFUSED_LIMIT 3u  /* one variable, action or combination too many, or a count too high: the word's index;
-                                 bnv_successor: over 512 nodes or 16 actions: 0 */
+                                 bnv_successor: over BNV_MOST_NODES nodes or BNV_MOST_ACTIONS actions: 0 */
 #define BNV_REFUSED_VALUE 4u  /* a program word with a value that is not allowed: its index */
 #define BNV_REFUSED_LEMMA 5u  /* a lemma word missing or against the rules: its index, the list's length if missing */
 #define BNV_REFUSED_LEMMAS 6u /* a 513th lemma: its index */
-#define BNV_REFUSED_NODES 7u  /* a 513th node is needed: 512 */
+#define BNV_REFUSED_NODES 7u  /* a 513th node is needed: BNV_MOST_NODES */
 #define BNV_REFUSED_ABSENT 8u /* no such action, lemma or node: its number */
 #define BNV_REFUSED_LENGTH 9u /* the state list's length is not the number of variables: that length */
 #define BNV_REFUSED_STATE 10u /* a state value off its range: the lowest such variable */
@@ -156,9 +162,9 @@ BnvAsk bnv_ask(const uint32_t *words, size_t words_length, const uint32_t *lemma
  * That is proved whatever the lemmas are; nobody has to vouch for them. The other two verdicts are findings in the graph; no state
  * may be able to walk their path.
  *
- * A verdict fills the first 9,216 words of the graph list with one record for each node, SETS, ORIGIN and an EDGE for each action,
- * and zeroes after them; and the first 512 words of the path list with the STEP words that lead to the finding's node, and zeroes
- * after them. Refusals in the order 1 graph, 1 path, 2 to 4, 5 and 6, 11, 7.
+ * A verdict fills the first BNV_GRAPH_WORDS words of the graph list with one record for each node, SETS, ORIGIN and an EDGE for each
+ * action, and zeroes after them; and the first BNV_PATH_WORDS words of the path list with the STEP words that lead to the finding's
+ * node, and zeroes after them. Refusals in the order 1 graph, 1 path, 2 to 4, 5 and 6, 11, 7.
  */
 
 #define BNV_SAFE 0u

@@ -28,6 +28,10 @@ static const uint32_t lemmas[] = {
 };
 #define LEMMAS (sizeof lemmas / sizeof *lemmas)
 
+/* Fade's one record: where its EDGE words begin, and its length. */
+#define EDGES BNV_HEADER_WORDS
+#define RECORD (BNV_HEADER_WORDS + 2)
+
 /* Lent lists with words past those that Judge may write. */
 static uint32_t graph[BNV_GRAPH_WORDS + 8];
 static uint32_t path[BNV_PATH_WORDS + 8];
@@ -116,16 +120,17 @@ static void judge(void)
     BnvJudge j = bnv_judge(fade, LOGIC, lemmas, LEMMAS, graph, BNV_GRAPH_WORDS + 8, path, BNV_PATH_WORDS + 8);
     CHECK(j.verdict == BNV_SAFE && j.node == 0 && j.place == 0 && j.variable == 0 && j.high == 0);
     CHECK(j.nodes == 1 && j.edges == 2 && j.refusal == 0 && j.value == 0);
-    CHECK(graph[0] == 0x80000000 && graph[1] == 0xB0001FFF && graph[2] == 0xC0000000 && graph[3] == 0xC0000000 && graph[4] == 0);
+    CHECK(graph[0] == 0x80000000 && graph[1] == 0xB0001FFF);
+    CHECK(graph[EDGES] == 0xC0000000 && graph[EDGES + 1] == 0xC0000000 && graph[RECORD] == 0);
     CHECK(path[0] == 0 && left(BNV_GRAPH_WORDS, BNV_PATH_WORDS));
-    BnvSuccessor s = bnv_successor(graph, 4, 1, 2, 0, 1);
+    BnvSuccessor s = bnv_successor(graph, RECORD, 1, 2, 0, 1);
     CHECK(s.answer == BNV_NODE && s.node == 0 && s.refusal == 0);
-    s = bnv_successor(graph, 3, 1, 2, 0, 1);
+    s = bnv_successor(graph, RECORD - 1, 1, 2, 0, 1);
     CHECK(s.answer == BNV_SUCCESSOR_REFUSED && s.refusal == BNV_REFUSED_SHORT && s.value == 0);
-    s = bnv_successor(graph, 4, 1, 2, 5, 1);
+    s = bnv_successor(graph, RECORD, 1, 2, 5, 1);
     CHECK(s.answer == BNV_SUCCESSOR_REFUSED && s.refusal == BNV_REFUSED_ABSENT && s.value == 5);
-    graph[2] = 0xCFFFFFFF;
-    s = bnv_successor(graph, 4, 1, 2, 0, 0);
+    graph[EDGES] = 0xCFFFFFFF;
+    s = bnv_successor(graph, RECORD, 1, 2, 0, 0);
     CHECK(s.answer == BNV_NO_NODE && s.node == 0);
     j = bnv_judge(fade, LOGIC, lemmas, LEMMAS - 4, graph, BNV_GRAPH_WORDS, path, BNV_PATH_WORDS);
     CHECK(j.verdict == BNV_MAY_RUN_OFF && j.node == 0 && j.place == 1 && j.variable == 0 && j.high == 1);

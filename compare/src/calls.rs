@@ -5,7 +5,7 @@ use crate::dice::Dice;
 use crate::generate::Input;
 use crate::other;
 use bulanevior::raw::{self as library, BnvJudge};
-use independent::words::{EDGE, GRAPH_WORDS, PATH_WORDS};
+use independent::words::{EDGE, GRAPH_WORDS, HEADER, MAX_NODES, PATH_WORDS};
 
 /// Words before and behind each lent list that no call may touch.
 const MARGIN: usize = 32;
@@ -227,7 +227,7 @@ impl Compare {
         let mut list = std::mem::take(&mut self.graphs[1]);
         let graph = &mut list[MARGIN..];
         let length = graph.len() - MARGIN;
-        let records = (nodes * (2 + actions)).min(length);
+        let records = (nodes * (HEADER + actions)).min(length);
         let mut ask = |graph: &[u32], nodes: usize, actions: usize, dice: &Dice| {
             let node = if dice.percent(2) { usize::MAX } else { dice.below(nodes.min(600) + usize::from(dice.percent(10))) };
             let action = if dice.percent(2) { usize::MAX } else { dice.below(actions.min(20) + usize::from(dice.percent(10))) };
@@ -240,7 +240,7 @@ impl Compare {
         done = done.and_then(|()| ask(&graph[..records], nodes, actions, dice));
         done = done.and_then(|()| match dice.below(6) {
             0 => ask(&graph[..records.saturating_sub(1 + dice.below(3))], nodes, actions, dice),
-            1 => ask(&graph[..length], dice.pick(&[0, 512, 513, usize::MAX]), actions, dice),
+            1 => ask(&graph[..length], dice.pick(&[0, MAX_NODES, MAX_NODES + 1, usize::MAX]), actions, dice),
             2 => ask(&graph[..length], nodes, dice.pick(&[0, 16, 17, usize::MAX]), dice),
             3 => ask(&graph[..length], nodes + dice.below(3), actions + dice.below(2), dice),
             4 => ask(&[], dice.below(2), dice.below(3), dice),

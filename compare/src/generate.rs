@@ -358,7 +358,7 @@ fn nodes_of(program: &[u32], lemmas: &[u32], actions: usize) -> Vec<u32> {
         independent::Judged::Safe { nodes, .. }
         | independent::Judged::MayForbid { nodes, .. }
         | independent::Judged::MayRunOff { nodes, .. } => {
-            (0..nodes).map(|n| payload(graph[n * (2 + actions)])).collect()
+            (0..nodes).map(|n| payload(graph[n * (HEADER + actions)])).collect()
         }
     }
 }

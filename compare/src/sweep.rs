@@ -205,8 +205,8 @@ impl Sweep<'_> {
 
     /// A show: list lengths, every lemma, every action, every successor, every state list around the ranges.
     fn show(&mut self, input: &Input) -> Result<(), Difference> {
-        for graph in [0, 1, 9_215, 9_216, 9_217, 12_000] {
-            for path in [0, 1, 511, 512, 513, 1_000] {
+        for graph in [0, 1, GRAPH_WORDS - 1, GRAPH_WORDS, GRAPH_WORDS + 1, 12_000] {
+            for path in [0, 1, PATH_WORDS - 1, PATH_WORDS, PATH_WORDS + 1, 1_000] {
                 self.compare.judge(input, graph, path, graph % 7)?;
                 self.inputs += 1;
             }
@@ -235,15 +235,15 @@ impl Sweep<'_> {
 
     /// Every node and action, every length of the list, counts at their ends and one past them.
     fn views(&mut self, graph: &[u32], nodes: usize, actions: usize) -> Result<(), Difference> {
-        for node in (0..nodes + 2).chain([511, 512, 513, usize::MAX]) {
+        for node in (0..nodes + 2).chain([MAX_NODES - 1, MAX_NODES, MAX_NODES + 1, usize::MAX]) {
             for action in (0..actions + 2).chain([15, 16, 17, usize::MAX]) {
                 self.successor(graph, (nodes, actions), node, action)?;
             }
         }
-        for length in 0..=nodes * (2 + actions) {
+        for length in 0..=nodes * (HEADER + actions) {
             self.successor(&graph[..length], (nodes, actions), 0, 0)?;
         }
-        for nodes in [0, 1, 511, 512, 513, usize::MAX] {
+        for nodes in [0, 1, MAX_NODES - 1, MAX_NODES, MAX_NODES + 1, usize::MAX] {
             for actions in [0, 1, 15, 16, 17, usize::MAX] {
                 self.successor(graph, (nodes, actions), 0, 0)?;
             }
@@ -254,11 +254,11 @@ impl Sweep<'_> {
     /// Every kind and every bit in every place of the first two records.
     fn words_of_views(&mut self, graph: &[u32], nodes: usize, actions: usize) -> Result<(), Difference> {
         let mut list = graph.to_vec();
-        for at in 0..(2 + actions) * nodes.min(2) {
+        for at in 0..(HEADER + actions) * nodes.min(2) {
             for word in (0..16).map(|k| make(k, graph[at])).chain((0..32).map(|b| graph[at] ^ 1 << b)) {
                 list[at] = word;
-                let (node, place) = (at / (2 + actions), at % (2 + actions));
-                self.successor(&list, (nodes, actions), node, place.saturating_sub(2))?;
+                let (node, place) = (at / (HEADER + actions), at % (HEADER + actions));
+                self.successor(&list, (nodes, actions), node, place.saturating_sub(HEADER))?;
             }
             list[at] = graph[at];
         }

@@ -122,7 +122,7 @@ fn write_graph(nodes: &[Node], graph: &mut [u32]) {
             None => make(ORIGIN, 0x1FFF), // "bits 12..0 all ones for node 0"
             Some((parent, action)) => make(ORIGIN, (parent << 4 | action) as u32),
         };
-        at += 2;
+        at += HEADER;
         for edge in &node.edges {
             graph[at] = match edge {
                 None => make(EDGE, PAYLOAD), // "all 28 bits ones for none"

@@ -146,7 +146,7 @@ pub fn successor(
     if nodes > MAX_NODES || actions > MAX_ACTIONS {
         return refuse(3, 0);
     }
-    let record = 2 + actions;
+    let record = HEADER + actions;
     if graph.len() < nodes * record {
         return refuse(1, 0);
     }
@@ -156,7 +156,7 @@ pub fn successor(
     if action >= actions {
         return refuse(8, action);
     }
-    let at = node * record + 2 + action;
+    let at = node * record + HEADER + action;
     if kind(graph[at]) != EDGE {
         return refuse(2, at);
     }

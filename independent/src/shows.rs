@@ -244,6 +244,10 @@ pub fn demo_lemmas() -> Vec<u32> {
 // ---------------------------------------------------------------------------------------------
 // The book of cases
 
+/// The least lengths of the lent lists.
+const GRAPH: u32 = GRAPH_WORDS as u32;
+const PATH: u32 = PATH_WORDS as u32;
+
 #[derive(Default)]
 struct Book {
     cases: Vec<Case>,
@@ -256,7 +260,7 @@ impl Book {
     }
 
     fn judge(&mut self, name: &str, p: &[u32], l: &[u32], hand: &str) {
-        self.judge_with(name, p, l, 9216, 512, hand);
+        self.judge_with(name, p, l, GRAPH, PATH, hand);
     }
 
     fn ask(&mut self, name: &str, p: &[u32], l: &[u32], k: u32, hand: &str) {
@@ -312,7 +316,7 @@ fn worked(book: &mut Book) {
     let fade = FADE.to_vec();
     let list = split_lemmas(&FADE_LEMMAS);
     book.judge("fade (a)", &fade, &FADE_LEMMAS, "SAFE nodes 1 edges 2");
-    book.judge_with("fade (a), longer lists", &fade, &FADE_LEMMAS, 9300, 600, "SAFE nodes 1 edges 2");
+    book.judge_with("fade (a), longer lists", &fade, &FADE_LEMMAS, GRAPH + 84, PATH + 88, "SAFE nodes 1 edges 2");
     let finding = |a: u32, end: &str| format!("RUNOFF node 0 action {a} variable 0 {end} nodes 1 edges 2");
     book.judge("fade (b), without lemma 0", &fade, &without(&list, 0), &finding(0, "low"));
     book.judge("fade without lemma 1", &fade, &without(&list, 1), &finding(0, "high"));
@@ -343,7 +347,7 @@ fn worked(book: &mut Book) {
     let list = house_lemmas();
     let full: Vec<u32> = list.concat();
     book.judge("house, own full lemmas", &home, &full, "SAFE nodes 3 edges 10");
-    book.judge_with("house, own full lemmas, longer", &home, &full, 10000, 513, "SAFE nodes 3 edges 10");
+    book.judge_with("house, own full lemmas, longer", &home, &full, 10000, PATH + 1, "SAFE nodes 3 edges 10");
     book.judge("house (d), no lemmas", &home, &[], "FORBID node 0 bad 0 nodes 1 edges 4");
     // (e): node 0 {not P0, not P1} goes by 0 to 1 {P1}, by 1 to 2 {P0, not P1}, by 2 and 3 to 0;
     // 1 to 1, none, 3 {not P0, P1}, 4 {not P1}; 2 to none, 2, 0, 2; 3 to 1, none, 3, 0; 4 to
@@ -391,16 +395,16 @@ fn show_files(book: &mut Book) {
         ("rig8", "SAFE nodes 500 edges 5600"),
     ] {
         let (p, l) = show(name);
-        for (graph, path) in [(9216, 512), (9217, 513), (12000, 1000)] {
-            if graph == 9217 && name != "rig8" {
+        for (graph, path) in [(GRAPH, PATH), (GRAPH + 1, PATH + 1), (12000, 1000)] {
+            if graph == GRAPH + 1 && name != "rig8" {
                 continue;
             }
             book.judge_with(&format!("show {name} {graph}/{path}"), &p, &l, graph, path, line);
         }
-        book.judge_with(&format!("show {name} 9215/512"), &p, &l, 9215, 512, "REFUSED 1 AT 0");
+        book.judge_with(&format!("show {name} {}/{PATH}", GRAPH - 1), &p, &l, GRAPH - 1, PATH, "REFUSED 1 AT 0");
         if name != "rig8" {
             book.judge(&format!("show {name}, no lemmas"), &p, &[], "");
-            book.judge_with(&format!("show {name} 9216/511"), &p, &l, 9216, 511, "REFUSED 1 AT 1");
+            book.judge_with(&format!("show {name} {GRAPH}/{}", PATH - 1), &p, &l, GRAPH, PATH - 1, "REFUSED 1 AT 1");
             book.judge_with(&format!("show {name} 0/0"), &p, &l, 0, 0, "REFUSED 1 AT 0");
         }
         let list = split_lemmas(&l);
@@ -439,18 +443,18 @@ fn short_lists(book: &mut Book) {
     ];
     for (number, (name, p, l)) in faults.into_iter().enumerate() {
         for (graph, path, line) in [
-            (9215, 512, "REFUSED 1 AT 0"),
-            (9216, 511, "REFUSED 1 AT 1"),
-            (9215, 511, "REFUSED 1 AT 0"),
+            (GRAPH - 1, PATH, "REFUSED 1 AT 0"),
+            (GRAPH, PATH - 1, "REFUSED 1 AT 1"),
+            (GRAPH - 1, PATH - 1, "REFUSED 1 AT 0"),
             (0, 0, "REFUSED 1 AT 0"),
-            (0, 512, "REFUSED 1 AT 0"),
-            (9216, 0, "REFUSED 1 AT 1"),
+            (0, PATH, "REFUSED 1 AT 0"),
+            (GRAPH, 0, "REFUSED 1 AT 1"),
             (1, 1, "REFUSED 1 AT 0"),
-            (9300, 511, "REFUSED 1 AT 1"),
-            (9215, 600, "REFUSED 1 AT 0"),
+            (GRAPH + 84, PATH - 1, "REFUSED 1 AT 1"),
+            (GRAPH - 1, PATH + 88, "REFUSED 1 AT 0"),
         ] {
             // All lengths with the good show, most with the bad lemma, two with each other fault.
-            if number == 0 || number == 2 && path > 1 || (graph, path) == (9215, 512) || (graph, path) == (9216, 511) {
+            if number == 0 || number == 2 && path > 1 || (graph, path) == (GRAPH - 1, PATH) || (graph, path) == (GRAPH, PATH - 1) {
                 book.judge_with(&format!("short {graph}/{path}, {name}"), p, l, graph, path, line);
             }
         }
@@ -1204,16 +1208,16 @@ pub fn counter(bits: u32, bad: &[(u32, u32)]) -> (Text, Vec<u32>) {
 fn graphs(book: &mut Book) {
     let (p, l) = subsets(9, 9);
     book.judge("512 nodes", &p, &l, "SAFE nodes 512 edges 4608");
-    book.judge_with("512 nodes, longer lists", &p, &l, 9999, 777, "SAFE nodes 512 edges 4608");
+    book.judge_with("512 nodes, longer lists", &p, &l, GRAPH + 783, PATH + 265, "SAFE nodes 512 edges 4608");
     let (p, l) = subsets(8, 8);
     book.judge("256 nodes", &p, &l, "SAFE nodes 256 edges 2048");
     let (p, l) = subsets(10, 10);
     book.judge("1024 nodes", &p, &l, "REFUSED 7 AT 512");
-    book.judge_with("1024 nodes, longer lists", &p, &l, 9300, 600, "REFUSED 7 AT 512");
+    book.judge_with("1024 nodes, longer lists", &p, &l, GRAPH + 84, PATH + 88, "REFUSED 7 AT 512");
     // 16 actions: the last seven lead to the empty set, which is node 0; 9,216 words in use.
     let (t, l) = subsets_text(9, 16);
     book.judge("512 nodes of 18 words", &t.words(), &l, "SAFE nodes 512 edges 8192");
-    book.judge_with("512 nodes of 18 words, longer", &t.words(), &l, 9217, 513, "SAFE nodes 512 edges 8192");
+    book.judge_with("512 nodes of 18 words, longer", &t.words(), &l, GRAPH + 1, PATH + 1, "SAFE nodes 512 edges 8192");
     // The same with action 15 impossible (goal 0) everywhere: one edge fewer for each node.
     let mut l0 = l.clone();
     l0.extend(t.forced(15, 0, 0, 0, 0));
@@ -1250,7 +1254,7 @@ fn graphs(book: &mut Book) {
         let (t, l) = counter(bits, &[(0, nodes - 1)]);
         let hand = format!("FORBID node {} bad 0 nodes {nodes} edges {nodes}", nodes - 1);
         book.judge(&format!("counter {bits}, last forbidden"), &t.words(), &l, &hand);
-        book.judge_with(&format!("counter {bits}, last forbidden, longer"), &t.words(), &l, 9250, 520, &hand);
+        book.judge_with(&format!("counter {bits}, last forbidden, longer"), &t.words(), &l, GRAPH + 34, PATH + 8, &hand);
     }
     let (t, l) = counter(10, &[]);
     book.judge("counter 10", &t.words(), &l, "REFUSED 7 AT 512");
@@ -1269,7 +1273,7 @@ fn graphs(book: &mut Book) {
     };
     let p = t.words();
     book.judge("empty graph by goal 0", &p, &lemma(START, 0, 0, 0, 0, &[1]), "SAFE nodes 0 edges 0");
-    book.judge_with("empty graph by goal 0, longer", &p, &lemma(START, 0, 0, 0, 0, &[1]), 9220, 515, "SAFE nodes 0 edges 0");
+    book.judge_with("empty graph by goal 0, longer", &p, &lemma(START, 0, 0, 0, 0, &[1]), GRAPH + 4, PATH + 3, "SAFE nodes 0 edges 0");
     let both = [lemma(START, 1, 0, 0, 0, &[0, 1]), lemma(START, 2, 0, 0, 0, &[0, 1])].concat();
     book.judge("empty graph by contradiction", &p, &both, "SAFE nodes 0 edges 0");
     let all = [both.clone(), lemma(START, 0, 0, 0, 0, &[1])].concat();
@@ -1697,7 +1701,7 @@ fn random(book: &mut Book) {
     }
     for seed in 0..20 {
         let (t, l) = large(seed);
-        book.judge_with(&format!("large {seed}"), &t.words(), &l, 9216 + seed as u32 % 3, 512 + seed as u32 % 2, "");
+        book.judge_with(&format!("large {seed}"), &t.words(), &l, GRAPH + seed as u32 % 3, PATH + seed as u32 % 2, "");
     }
     // Words changed, left out or put in by chance.
     for seed in 0..24u64 {

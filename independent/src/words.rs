@@ -23,6 +23,8 @@ pub const PAYLOAD: u32 = 0x0FFF_FFFF;
 
 /// "graph list under 9,216 words"
 pub const GRAPH_WORDS: usize = 9_216;
+/// "A node's record is SETS, ORIGIN (where it was first found) and one EDGE per action."
+pub const HEADER: usize = 2;
 /// "path list under 512"
 pub const PATH_WORDS: usize = 512;
 /// "a 513th node is needed"

@@ -8,8 +8,8 @@ use independent::words::*;
 use independent::*;
 
 fn judged(p: &[u32], l: &[u32]) -> (Judged, Vec<u32>, Vec<u32>) {
-    let mut graph = lent_graph(9216);
-    let mut path = lent_path(512);
+    let mut graph = lent_graph(GRAPH_WORDS as u32);
+    let mut path = lent_path(PATH_WORDS as u32);
     let verdict = judge(p, l, &mut graph, &mut path);
     (verdict, graph, path)
 }
@@ -26,8 +26,8 @@ fn zero(words: &[u32]) -> bool {
 fn a_fade_is_safe() {
     let (verdict, graph, path) = judged(&FADE, &FADE_LEMMAS);
     assert_eq!(verdict, Judged::Safe { nodes: 1, edges: 2 });
-    assert_eq!(graph[..4], [0x80000000, 0xB0001FFF, 0xC0000000, 0xC0000000]);
-    assert!(zero(&graph[4..]) && zero(&path));
+    assert_eq!(graph[..HEADER + 2], [0x80000000, 0xB0001FFF, 0xC0000000, 0xC0000000]);
+    assert!(zero(&graph[HEADER + 2..]) && zero(&path));
 }
 
 #[test]
@@ -62,8 +62,8 @@ fn house_with_full_lemmas() {
             0x80004002, 0xB0000000, 0xC0000001, none, 0xC0000001, 0xC0000000,
             0x80008001, 0xB0000001, none, 0xC0000002, 0xC0000000, 0xC0000002,
         ];
-        assert_eq!(graph[..18], expected);
-        assert!(zero(&graph[18..]) && zero(&path));
+        assert_eq!(graph[..3 * (HEADER + 4)], expected);
+        assert!(zero(&graph[3 * (HEADER + 4)..]) && zero(&path));
         assert_eq!(successor(&graph, 3, 4, 0, 1), Ok(2));
         assert_eq!(successor(&graph, 3, 4, 1, 1), Ok(0x0FFFFFFF));
     }
@@ -73,7 +73,7 @@ fn house_with_full_lemmas() {
 fn d_house_with_no_lemmas() {
     let (verdict, graph, path) = judged(&house().words(), &[]);
     assert_eq!(verdict, Judged::MayForbid { node: 0, bad: 0, nodes: 1, edges: 4 });
-    assert_eq!(graph[..6], [0x80000000, 0xB0001FFF, 0xC0000000, 0xC0000000, 0xC0000000, 0xC0000000]);
+    assert_eq!(graph[..HEADER + 4], [0x80000000, 0xB0001FFF, 0xC0000000, 0xC0000000, 0xC0000000, 0xC0000000]);
     assert!(zero(&path));
 }
 
@@ -84,7 +84,7 @@ fn e_house_without_action_0_failing_p0() {
         list.remove(house_failing(&list));
         let (verdict, graph, path) = judged(&house().words(), &list.concat());
         assert!(matches!(verdict, Judged::MayForbid { node: 1, bad: 0, .. }), "{verdict:?}");
-        assert_eq!(graph[6], 0x80000002);
+        assert_eq!(graph[HEADER + 4], 0x80000002);
         assert_eq!(path[0], 0xD0000000);
         assert!(zero(&path[1..]));
     }
@@ -190,16 +190,16 @@ fn steps() {
 fn views() {
     let (_, graph, _) = judged(&FADE, &FADE_LEMMAS);
     assert_eq!(successor(&graph, 1, 2, 0, 1), Ok(0));
-    assert_eq!(successor(&graph[..4], 1, 2, 0, 1), Ok(0));
-    assert_eq!(successor(&graph[..3], 1, 2, 0, 1), Err(refusal(1, 0)));
-    assert_eq!(successor(&graph, 513, 2, 0, 1), Err(refusal(3, 0)));
+    assert_eq!(successor(&graph[..HEADER + 2], 1, 2, 0, 1), Ok(0));
+    assert_eq!(successor(&graph[..HEADER + 1], 1, 2, 0, 1), Err(refusal(1, 0)));
+    assert_eq!(successor(&graph, MAX_NODES + 1, 2, 0, 1), Err(refusal(3, 0)));
     assert_eq!(successor(&[], 1, 17, 0, 1), Err(refusal(3, 0)));
     assert_eq!(successor(&[], 1, 0, 0, 1), Err(refusal(1, 0)));
     assert_eq!(successor(&[], 0, 16, 5, 1), Err(refusal(8, 5)));
     assert_eq!(successor(&graph, 1, 2, 1, 2), Err(refusal(8, 1)));
     assert_eq!(successor(&graph, 1, 2, 0, 2), Err(refusal(8, 2)));
-    assert_eq!(successor(&graph, 1, 3, 0, 2), Err(refusal(2, 4)));
-    assert_eq!(successor(&graph, 512, 16, 511, 15), Err(refusal(2, 9215)));
+    assert_eq!(successor(&graph, 1, 3, 0, 2), Err(refusal(2, HEADER as u64 + 2)));
+    assert_eq!(successor(&graph, MAX_NODES, 16, MAX_NODES - 1, 15), Err(refusal(2, GRAPH_WORDS as u64 - 1)));
 }
 
 #[test]
@@ -231,7 +231,7 @@ fn hand_answers() {
         let path = lent_path(case.record.path);
         if line.starts_with("REFUSED 7 ") {
             let mut graph = graph;
-            graph[..9216].fill(0);
+            graph[..GRAPH_WORDS].fill(0);
             let tail = format!(" GRAPH {} PATH {}", digest(&graph), digest(&path));
             assert!(line.ends_with(&tail), "{}: {line}", case.name);
         } else if line.starts_with("REFUSED ") {
@@ -260,9 +260,10 @@ fn a_long_path() {
     let (verdict, graph, path) = judged(&t.words(), &l);
     assert_eq!(verdict, Judged::MayForbid { node: 511, bad: 0, nodes: 512, edges: 512 });
     assert!(path[..511].iter().all(|w| *w == 0xD0000000) && path[511] == 0);
-    assert_eq!(graph[3 * 511], sets_word(0, 511));
-    assert_eq!(graph[3 * 511 + 1], 0xB0000000 | 510 << 4);
-    assert_eq!(graph[3 * 511 + 2], 0xC0000000);
+    let last = 511 * (HEADER + 1);
+    assert_eq!(graph[last], sets_word(0, 511));
+    assert_eq!(graph[last + 1], 0xB0000000 | 510 << 4);
+    assert_eq!(graph[last + HEADER], 0xC0000000);
 }
 
 /// The tree: node 8 is found from 6 by action 1, 6 from 4 by 0, 4 from 1 by 1, 1 from 0 by 0.
@@ -330,7 +331,7 @@ fn slow_judge(p: &[u32], words: &[u32]) -> Option<(Judged, Vec<u32>, Vec<u32>)> 
                 Some(set) => match nodes.iter().position(|n| n.0 == set) {
                     Some(n) => n as u32,
                     None => {
-                        if nodes.len() == 512 {
+                        if nodes.len() == MAX_NODES {
                             return None;
                         }
                         nodes.push((set, (at as u32) * 16 + a as u32, vec![]));
@@ -357,7 +358,7 @@ fn slow_judge(p: &[u32], words: &[u32]) -> Option<(Judged, Vec<u32>, Vec<u32>)> 
         graph.extend(targets.iter().map(|t| 0xC000_0000 + t));
         edges += targets.iter().filter(|t| **t != 0x0FFFFFFF).count();
     }
-    graph.resize(9216, 0);
+    graph.resize(GRAPH_WORDS, 0);
     let count = nodes.len();
     let mut verdict = Judged::Safe { nodes: count, edges };
     let mut path = vec![];
@@ -384,7 +385,7 @@ fn slow_judge(p: &[u32], words: &[u32]) -> Option<(Judged, Vec<u32>, Vec<u32>)> 
             }
         }
     }
-    path.resize(512, 0);
+    path.resize(PATH_WORDS, 0);
     Some((verdict, graph, path))
 }
 

@@ -8,8 +8,15 @@ compile_error!("64-bit numbers only");
 
 pub mod raw;
 
+/// The most nodes of a graph.
+pub const MOST_NODES: usize = 512;
+/// The most actions of a program.
+pub const MOST_ACTIONS: usize = 16;
+/// The words of a node's record before its EDGE words: SETS and ORIGIN.
+pub const HEADER_WORDS: usize = 2;
+
 /// The words that `judge` needs in a graph list, and the only ones that it ever writes there.
-pub const GRAPH_WORDS: usize = 9216;
+pub const GRAPH_WORDS: usize = MOST_NODES * (HEADER_WORDS + MOST_ACTIONS);
 /// The words that `judge` needs in a path list, and the only ones that it ever writes there.
 pub const PATH_WORDS: usize = 512;
 
@@ -34,7 +41,7 @@ pub enum Refusal {
     Short(usize),
     /// A program word missing, of the wrong kind, after END, or with an unnamed bit; a view meets no EDGE. The word's index.
     Word(usize),
-    /// One too many, or a count too high: the word's index. A view of over 512 nodes or 16 actions: 0.
+    /// One too many, or a count too high: the word's index. A view of over `MOST_NODES` nodes or `MOST_ACTIONS` actions: 0.
     Limit(usize),
     /// A program word with a value that is not allowed: its index.
     Value(usize),
@@ -92,7 +99,7 @@ impl Refusal {
     /// The value that is returned with it.
     pub fn value(self) -> usize {
         match self {
-            Refusal::Nodes => 512,
+            Refusal::Nodes => MOST_NODES,
             Refusal::Short(n)
             | Refusal::Word(n)
             | Refusal::Limit(n)

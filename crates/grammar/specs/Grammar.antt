@@ -22,6 +22,8 @@ use lib.IntN.{ℤ, pos, negsuc}
 use lib.Signed.{leZ}
 use lib.ListN.{length, replicate}
 use Rattle.words.specs.Words.{bits, payload, kindOf, signed, literalsOf, VAR, ROW, TERM, INIT, PRED, ACTION, SET, SETS, END}
+use Rattle.words.specs.Limits.{mostVariables, mostRows, mostPredicates, mostActions, mostForbidden}
+use Rattle.words.specs.Limits.{leastConstant, mostConstant, leastCoefficient, mostCoefficient}
 use Rattle.words.specs.declared.Refusal.the-variants.{Word}
 use Rattle.words.specs.declared.Literals.{Literals}
 use Rattle.rows.specs.declared.Row.{Row}
@@ -46,7 +48,7 @@ abbrev pub coefficient : ℕ → ℤ
 coefficient w = signed 16 (bits 15 0 w)
 
 abbrev pub coefficientAllowed : ℕ → Bool
-coefficientAllowed w = not (eqb (bits 15 0 w) 0) && between (negsuc 999) (pos 1000) (coefficient w)
+coefficientAllowed w = not (eqb (bits 15 0 w) 0) && between leastCoefficient mostCoefficient (coefficient w)
 
 abbrev pub term : (ℕ → Bool) → Reader ℕ
 term allowed = one TERM (λ w. eqb (bits 23 16 w) 0) always allowed
@@ -72,10 +74,10 @@ abbrev pub constantOf : ℕ → ℤ
 constantOf w = signed 28 (payload w)
 
 abbrev pub constantAllowed : ℕ → Bool
-constantAllowed w = between (negsuc 999999) (pos 1000000) (constantOf w)
+constantAllowed w = between leastConstant mostConstant (constantOf w)
 
 abbrev pub rowOf : ℕ → ℤ → List ℤ → Row
-rowOf vars constant cs = record { coef = cs ++ replicate (8 - vars) (pos 0); constant = constant }
+rowOf vars constant cs = record { coef = cs ++ replicate (mostVariables - vars) (pos 0); constant = constant }
 
 unfoldable pub row : ℕ → Reader Row
 row vars = do
@@ -107,7 +109,7 @@ sets vars (suc n) v = do
 -- ACTION: guard rows 7..4, assignments 3..0, each 0 to 8
 unfoldable pub action : ℕ → Bool → Reader Action
 action vars room = do
-  w ← one ACTION (λ w. eqb (bits 27 8 w) 0) (λ w. room && leb (bits 7 4 w) 8 && leb (bits 3 0 w) 8) always
+  w ← one ACTION (λ w. eqb (bits 27 8 w) 0) (λ w. room && leb (bits 7 4 w) mostRows && leb (bits 3 0 w) mostVariables) always
   gs ← times (bits 7 4 w) (row vars)
   ss ← sets vars (bits 3 0 w) 0
   pure (record { guards = gs; sets = ss })
@@ -135,15 +137,15 @@ end = do
 unfoldable pub ranges : Reader (List Range)
 ranges = do
   r ← range true
-  rs ← many VAR range 7
+  rs ← many VAR range (mostVariables - 1)
   pure (r ∷ rs)
 
 unfoldable pub program : Reader Program
 program = do
   gs ← ranges
-  start ← rows INIT 8 (length gs)
-  preds ← rows PRED 14 (length gs)
-  actions ← many ACTION (action (length gs)) 16
-  forbidden ← many SETS (combination (length preds)) 8
+  start ← rows INIT mostRows (length gs)
+  preds ← rows PRED mostPredicates (length gs)
+  actions ← many ACTION (action (length gs)) mostActions
+  forbidden ← many SETS (combination (length preds)) mostForbidden
   e ← end
   pure (record { ranges = gs; start = start; predicates = preds; actions = actions; forbidden = forbidden })

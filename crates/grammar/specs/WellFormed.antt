@@ -14,6 +14,8 @@ use lib.IntN.{ℤ, pos, negsuc}
 use lib.Signed.{_≤ℤ_}
 use lib.ListN.{length, drop, replicate}
 use Rattle.words.specs.Words.{bits}
+use Rattle.words.specs.Limits.{mostVariables, mostRows, mostPredicates, mostActions, mostForbidden}
+use Rattle.words.specs.Limits.{leastConstant, mostConstant, leastCoefficient, mostCoefficient}
 use Rattle.words.specs.declared.Literals.{Literals}
 use Rattle.rows.specs.declared.Row.{Row}
 use Rattle.rows.specs.declared.Range.{Range}
@@ -39,10 +41,10 @@ pub record RangeOk (r : Range) : Type 0 where
   pub order : r .low ≤ℤ r .high
 
 pub record RowOk (vars : ℕ) (r : Row) : Type 0 where
-  pub eight : length (r .coef) ≡ 8
-  pub small : Each (Between (negsuc 999) (pos 1000)) (r .coef)
-  pub absent : drop vars (r .coef) ≡ replicate (8 - vars) (pos 0)
-  pub constant : Between (negsuc 999999) (pos 1000000) (r .constant)
+  pub eight : length (r .coef) ≡ mostVariables
+  pub small : Each (Between leastCoefficient mostCoefficient) (r .coef)
+  pub absent : drop vars (r .coef) ≡ replicate (mostVariables - vars) (pos 0)
+  pub constant : Between leastConstant mostConstant (r .constant)
 
 -- an assignment to a variable from v on
 pub record SetOk (vars v : ℕ) (s : Assignment) : Type 0 where
@@ -56,8 +58,8 @@ Rising vars v [] = Unit {0}
 Rising vars v (s ∷ ss) = SetOk vars v s × Rising vars (suc (s .variable)) ss
 
 pub record ActionOk (vars : ℕ) (a : Action) : Type 0 where
-  pub guards : Few 8 (RowOk vars) (a .guards)
-  pub few : length (a .sets) ≤ 8
+  pub guards : Few mostRows (RowOk vars) (a .guards)
+  pub few : length (a .sets) ≤ mostVariables
   pub rising : Rising vars 0 (a .sets)
 
 pub record LiteralsOk (preds : ℕ) (l : Literals) : Type 0 where
@@ -68,8 +70,8 @@ pub record LiteralsOk (preds : ℕ) (l : Literals) : Type 0 where
 
 pub record WellFormed (p : Program) : Type 0 where
   pub some : 1 ≤ length (p .ranges)
-  pub ranges : Few 8 RangeOk (p .ranges)
-  pub start : Few 8 (RowOk (length (p .ranges))) (p .start)
-  pub predicates : Few 14 (RowOk (length (p .ranges))) (p .predicates)
-  pub actions : Few 16 (ActionOk (length (p .ranges))) (p .actions)
-  pub forbidden : Few 8 (LiteralsOk (length (p .predicates))) (p .forbidden)
+  pub ranges : Few mostVariables RangeOk (p .ranges)
+  pub start : Few mostRows (RowOk (length (p .ranges))) (p .start)
+  pub predicates : Few mostPredicates (RowOk (length (p .ranges))) (p .predicates)
+  pub actions : Few mostActions (ActionOk (length (p .ranges))) (p .actions)
+  pub forbidden : Few mostForbidden (LiteralsOk (length (p .predicates))) (p .forbidden)

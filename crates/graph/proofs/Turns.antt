@@ -9,7 +9,8 @@ use native.Mathlib.Omega.{arith}
 use native.Mathlib.Nat.{add-zero}
 use native.Mathlib.Numerals.{add-one}
 use lib.ListN.{length, drop, getD}
-use Rattle.words.specs.Words.{payload}
+use Rattle.words.specs.Words.{payload, literalsOf}
+use Rattle.words.specs.declared.Literals.{Literals}
 use Rattle.gather.specs.Gathering.{Entry, Table, gathered, successorOf}
 use Rattle.search.specs.Search.{Answer, Origin, From, Graph, Result, Done, Over, count, links, nodeWord, answered, acted, turns}
 use Rattle.search.proofs.Steps.{Keeps, turns-keeps, turns-over}
@@ -25,9 +26,11 @@ pub turned-as : (o : Origin) {l l′ : List ℕ} {a n x e e′ : ℕ} {r : Explo
     → Turned (λ g. answered mostNodes g o z) l a n x e r l′ e′ → Turned (λ g. answered mostNodes g o y) l a n x e r l′ e′
 turned-as o {l} {l′} {a} {n} {x} {e} {e′} {r} y z same t = subst (λ (u : Answer). Turned (λ g. answered mostNodes g o u) l a n x e r l′ e′) (sym same) t
 
--- the table of a node's word gives the successors of that word
-pub table-gives : (es : List Entry) (w u : ℕ) (t : List ℕ) (j : ℕ) → u ≡ w → Table (payload u) es t → j < 16 → nextOf es w j ≡ answerOf (successorOf (getD t j 0))
-table-gives es w u t j e T h = ap (λ (s : ℕ). answerOf (successorOf s)) (ap (λ (v : ℕ). gathered j (payload v) es) (sym e) ∙ sym (T .same j h))
+-- the table of the set in a node's word gives the successors of that word
+pub table-gives : (es : List Entry) (w u : ℕ) (s : Literals) (t : List ℕ) (j : ℕ) → u ≡ w → s ≡ literalsOf u → Table (s .0) es t → j < 16 → nextOf es w j ≡ answerOf (successorOf (getD t j 0))
+table-gives es w u s t j e is T h =
+    ap (λ (y : ℕ). answerOf (successorOf y))
+    (ap (λ (v : ℕ). gathered j (payload v) es) (sym e) ∙ ap (λ (v : Literals). gathered j (v .0) es) (sym is) ∙ sym (T .same j h))
 
 abbrev pub Still : List ℕ → Result → List ℕ → ℕ → ℕ → ℕ → ℕ → Type 0
 Still l₀ (Done g) l a n x e = Kept l₀ l a n x e g

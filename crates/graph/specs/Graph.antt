@@ -7,6 +7,7 @@
 use Prim.Native.Nat.{ℕ}
 use mathlib.Core.List.{List}
 use Rattle.words.specs.Words.{payload, word, SETS}
+use Rattle.words.specs.Limits.{START}
 use Rattle.gather.specs.Gathering.{Entry, gathered, successorOf}
 use Rattle.gather.specs.declared.Successor.{Successor}
 use Rattle.gather.specs.declared.Successor.the-variants.{Nothing, Set}
@@ -21,7 +22,7 @@ abbrev pub nextOf : List Entry → ℕ → ℕ → Answer
 nextOf es w j = answerOf (successorOf (gathered j (payload w) es))
 
 abbrev pub startOf : List Entry → Answer
-startOf es = answerOf (successorOf (gathered 255 0 es))
+startOf es = answerOf (successorOf (gathered START 0 es))
 
 abbrev pub graphOf : List Entry → ℕ → Result
 graphOf es a = explored (nextOf es) a mostNodes (startOf es)

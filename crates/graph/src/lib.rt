@@ -10,13 +10,15 @@ ghost use Rattle.records.specs.Steps.{hintCount, Turned, Filled};
 ghost use Rattle.graph.specs.Graph.{answerOf, nextOf, graphOf};
 use gather::Successor;
 use records::Explored;
+use words::Kind;
+use words::Literals;
 
 // The word of a node with these literals.
 fn node_word(set: u32) -> u32
     requires { ⌜ set < 2 ^ 28 ⌝ }
     ensures { λ r. ⌜ r ≡ word SETS set ⌝ }
 {
-    0x8000_0000 + set
+    Kind::SETS.word(set)
 }
 
 // The turn of action j at node k, given what is shown there for it.
@@ -59,7 +61,7 @@ fn turn(
     ensures { λ r. ⌜ Turned (λ h. turns (nextOf (entries (now (premises .entry)) (now (keys .entry)) n)) mostNodes h k actions) (now (graph .entry)) actions nodes edges (k * actions) r (now (graph .exit)) (k * actions + actions) ⌝ }
 {
     let node = records::word_at(&graph[..], actions, k);
-    let shown = gather::gather_all(premises, keys, n, node % 268435456);
+    let shown = gather::gather_all(premises, keys, n, Literals::of(node).0);
     let mut m = nodes;
     let mut x = edges;
     let mut j: usize = 0;
@@ -126,7 +128,13 @@ pub fn explore(
     ensures { λ r. ⌜ (r ≡ exploredOf (graphOf (entries (now (premises .entry)) (now (keys .entry)) n) actions)) × (now (graph .exit) ≡ graphList actions (graphOf (entries (now (premises .entry)) (now (keys .entry)) n) actions) (now (graph .entry))) ⌝ }
 {
     records::clear(&mut *graph, records::ROOM);
-    let next = gather::successor_of(gather::gather(premises, keys, n, 255, 0));
+    let next = gather::successor_of(gather::gather(
+        premises,
+        keys,
+        n,
+        words::START,
+        Literals::EMPTY.0,
+    ));
     match next {
         Successor::Set(set) => {
             let w = node_word(set);

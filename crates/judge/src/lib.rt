@@ -144,10 +144,10 @@ pub fn judge(words: &[u32], lemmas: &[u32], graph: &mut [u32], path: &mut [u32])
     ensures demand2 { λ r. ⌜ Demand2Of (now (words .entry)) (now (lemmas .entry)) r (now (graph .entry)) (now (graph .exit)) (now (path .entry)) (now (path .exit)) ⌝ }
     ensures demand3 { λ r. ⌜ ((nodes edges : ℕ) → r ≡ Safe nodes edges → SafeOf (read (now (words .entry)))) ⌝ }
 {
-    if graph.len() < 9216 {
+    if graph.len() < records::ROOM {
         return Judged::Refused(Refusal::Short(0));
     }
-    if path.len() < 512 {
+    if path.len() < verdict::PATH_ROOM {
         return Judged::Refused(Refusal::Short(1));
     }
     let loaded = programs::load(words);

@@ -16,6 +16,7 @@ use Prim.Native.Nat.{ℕ, _+_, _*_, _^_, _≤_, _<_}
 use lib.Dec.{eqb, ltb, leb}
 use lib.ListN.{length}
 use Rattle.words.specs.Words.{bits, payload, word, literalsOf, LEMMA, SETS, MULT}
+use Rattle.words.specs.Limits.{mostMultiplier, mostLemmas}
 use Rattle.words.specs.Refusals.{number, value}
 use Rattle.words.specs.declared.Refusal.{Refusal}
 use Rattle.words.specs.declared.Refusal.the-variants.{Lemmas}
@@ -57,7 +58,7 @@ premisesAllowed p source set = literalsAllowed (length (p .predicates)) set && (
 -- MULT: 0 to 65,535
 abbrev pub multiplier : Reader ℕ
 multiplier = do
-  w ← one MULT always always (λ w. leb (payload w) 65535)
+  w ← one MULT always always (λ w. leb (payload w) mostMultiplier)
   pure (payload w)
 
 abbrev pub lemmaOf : ℕ → ℕ → List ℕ → Lemma
@@ -72,7 +73,7 @@ lemma p room = do
 
 unfoldable pub list : Program → Reader (List Lemma)
 list p = do
-  ls ← many LEMMA (lemma p) 512
+  ls ← many LEMMA (lemma p) mostLemmas
   e ← nothing
   pure ls
 
@@ -99,4 +100,4 @@ pub record LemmaOk (p : Program) (l : Lemma) : Type 0 where
   pub premises : premisesAllowed p (l .source) (l .premises .0) ≡ true
   pub payload : l .premises .0 < 2 ^ 28
   pub counted : length (l .multipliers) ≡ length (rowsOf p l)
-  pub small : Each (λ m. m ≤ 65535) (l .multipliers)
+  pub small : Each (λ m. m ≤ mostMultiplier) (l .multipliers)

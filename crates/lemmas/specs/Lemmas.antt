@@ -3,7 +3,6 @@
 -- Goal             — what a lemma says of its index
 -- goalNumber, goalOf — a goal's number in a LEMMA word; the goal of a number
 -- Lemma            — source, goal and index, premises, multipliers
--- START            — the source that stands for the start
 -- sourceRows       — the rows of the source
 -- newRows          — each variable's row afterwards
 -- range            — of a variable
@@ -19,6 +18,7 @@ use lib.Dec.{eqb}
 use lib.IntN.{ℤ, pos, negsuc, negℤ}
 use lib.Signed.{ltZ}
 use lib.ListN.{getD, set, replicate}
+pub use Rattle.words.specs.Limits.{START}
 use Rattle.words.specs.declared.Literals.{Literals}
 use Rattle.rows.specs.declared.Row.{Row}
 use Rattle.rows.specs.declared.Range.{Range}
@@ -58,10 +58,6 @@ pub record Lemma : Type 0 where
   pub index : ℕ
   pub premises : Literals
   pub multipliers : List ℕ
-
--- Source is an action, or 255 for the start.
-abbrev pub START : ℕ
-START = 255
 
 -- Each row of the source: an action's guard rows, or the start rows.
 abbrev pub sourceRows : Program → ℕ → List Row

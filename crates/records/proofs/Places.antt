@@ -1,11 +1,11 @@
 -- Where records stand, and the lookup among them:
 --     row-within, most, one-more      records lie one after another, and within their room
 --     column-length, column-at, column-other   a column's words, and stores elsewhere
---     found, hinted                   the loop that looks a word up; a hint that is right
+--     tried, none-found, found        the loop that looks a word up, wherever it begins
 --     firsts-more                     one word more that is not there yet
 --     zeros-left                      what is left of a run of zeros
 use mathlib.Core.Path.{_≡_, refl, sym, ap, subst, _∙_}
-use mathlib.Core.Logic.{_⊎_, ⊎-elim}
+use mathlib.Core.Logic.{⊎-elim}
 use mathlib.Core.List.{List, [], _∷_, _++_}
 use Prim.Native.Nat.{ℕ, zero, suc, _+_, _-_, _*_, _<_, _≤_}
 use native.Mathlib.Omega.{arith}
@@ -13,7 +13,7 @@ use native.Mathlib.Nat.{sub-zero, suc-sub-suc, suc-mul, mul-le-mul, mul-le-mul-r
 use lib.ListN.{length, getD, set, drop, replicate, length-replicate, length-append, List·getD-append}
 use lib.Seq.{drop-append-le, getD-set-other, getD-at}
 use Rattle.search.specs.Search.{seek}
-use Rattle.search.proofs.Count.{lt-or-le, seek-found, seek-bound, seek-le}
+use Rattle.search.proofs.Count.{lt-or-le, eq-or-ne, seek-found, seek-bound, seek-le}
 use Rattle.records.specs.Records.{mostNodes, graphWords, stride, recordPlace}
 use Rattle.records.specs.Steps.{column, Firsts}
 
@@ -54,22 +54,25 @@ column-other l a c (suc n) p v apart =
     rw (column-other l a c n p v (λ i h. apart i (omega arith)), getD-set-other l p (recordPlace a n + c) v 0 (apart n (omega arith)))
 
 -- ---- the lookup
-pub found : (l : List ℕ) (a n w i : ℕ) → i ≤ n → ((k : ℕ) → k < i → getD l (recordPlace a k) 0 ≡ w → ⊥) → (n ≤ i) ⊎ (getD l (recordPlace a i) 0 ≡ w) → i ≡ seek w (column l a 0 n)
-found l a n w i le before end =
+-- a candidate is tried, and has another word
+pub tried : (P : ℕ → Type 0) (n i left : ℕ) → ((k : ℕ) → left ≤ k → k < n → (k ≡ i → ⊥) → P k → ⊥) → (P i → ⊥) → (k : ℕ) → left ≤ k → k < n → P k → ⊥
+tried P n i left before other k ge lt p = ⊎-elim (λ e. other (subst P e p)) (λ ne. before k ge lt ne p) (eq-or-ne k i)
+
+-- none of n nodes has the word
+pub none-found : (l : List ℕ) (a n w : ℕ) → ((k : ℕ) → k < n → getD l (recordPlace a k) 0 ≡ w → ⊥) → n ≡ seek w (column l a 0 n)
+none-found l a n w other =
     let cs = column l a 0 n in
     let len : length cs ≡ n = column-length l a 0 n in
-    let at : (k : ℕ) → k < n → getD cs k 0 ≡ getD l (recordPlace a k) 0 = first-at l a n in
-    let low : i ≤ seek w cs = ⊎-elim (λ lt. absurd (before (seek w cs) lt (sym (at (seek w cs) (omega arith)) ∙ seek-found w cs (omega (arith, len))))) (λ h. h) (lt-or-le (seek w cs) i) in
-    ⊎-elim (λ h. omega (arith, seek-bound w cs, len, low))
-    (λ e. ⊎-elim (λ lt. omega (arith, low, seek-le w cs i (omega (arith, len)) (at i lt ∙ e))) (λ h. omega (arith, seek-bound w cs, len, low)) (lt-or-le i n)) end
+    ⊎-elim (λ lt. absurd (other (seek w cs) lt (sym (first-at l a n (seek w cs) lt) ∙ seek-found w cs (omega (arith, len)))))
+    (λ ge. omega (arith, seek-bound w cs, len)) (lt-or-le (seek w cs) n)
 
 -- what is not found below n is not there
 pub not-there : (w : ℕ) (l : List ℕ) (a n at : ℕ) → at ≡ seek w (column l a 0 n) → n ≤ at → seek w (column l a 0 n) ≡ n
 not-there w l a n at e out = omega (arith, seek-bound w (column l a 0 n), column-length l a 0 n)
 
--- a hint that is right
-pub hinted : (l : List ℕ) (a n w h : ℕ) → h < n → getD l (recordPlace a h) 0 ≡ w → Firsts (column l a 0 n) → h ≡ seek w (column l a 0 n)
-hinted l a n w h lt e firsts =
+-- the node that has the word is the first one
+pub found : (l : List ℕ) (a n w h : ℕ) → h < n → getD l (recordPlace a h) 0 ≡ w → Firsts (column l a 0 n) → h ≡ seek w (column l a 0 n)
+found l a n w h lt e firsts =
     let z = firsts h (omega (arith, column-length l a 0 n)) in
     sym (subst (λ (u : ℕ). seek u (column l a 0 n) ≡ h) (first-at l a n h lt ∙ e) z)
 

@@ -1,46 +1,32 @@
 -- The records of a graph in a list of words, one after the other: a node's word, its origin, and an edge for each action.
 --
--- ORIGIN, EDGE           — the kinds
 -- edgeWord, originWord   — the words of an edge and of an origin
--- mostNodes, graphWords  — how many nodes there may be, and how many words their records have room in
--- header, stride         — how many words of a record come before its edges; how many it has
+-- originOffset, stride   — where in a record its origin stands; how many words it has
 -- recordPlace, edgePlace — where a record begins; where an edge of it stands
 -- edgeRow, nodeRecord, recordsOf — the first j edge words of node k; the record of node k; the first n records
 -- listOf, graphList      — the list that a search leaves: the records, then zeros up to its room, then what was there
 -- exploredOf             — what a search answers: the number of nodes and of edges that lead to a node, or that there are too many nodes
-use Prim.Native.Nat.{ℕ, zero, suc, _+_, _*_, _-_, _^_}
+use Prim.Native.Nat.{ℕ, zero, suc, _+_, _*_, _-_}
 use mathlib.Core.List.{List, [], _∷_, _++_}
 use lib.ListN.{drop, replicate}
-use Rattle.words.specs.Words.{word}
+use Rattle.words.specs.Words.{word, ORIGIN, EDGE, noNode, noParent}
+pub use Rattle.words.specs.Limits.{mostNodes, header, graphWords}
 use Rattle.search.specs.Search.{Answer, To, None, Origin, Root, From, Graph, Result, Done, Over, count, links, nodeWord, origin, edge}
 use Rattle.records.specs.declared.Explored.{Explored}
 use Rattle.records.specs.declared.Explored.the-variants.{Whole, Full}
 
-abbrev pub ORIGIN : ℕ
-ORIGIN = 11
-
-abbrev pub EDGE : ℕ
-EDGE = 12
-
--- all 28 bits ones for none
 abbrev pub edgeWord : Answer → ℕ
 edgeWord (To m) = word EDGE m
-edgeWord None = word EDGE (2 ^ 28 - 1)
+edgeWord None = word EDGE noNode
 
--- the parent in bits 12..4, the action in 3..0; all 13 bits ones for node 0
+-- the parent in bits 12..4, the action in 3..0
 abbrev pub originWord : Origin → ℕ
-originWord Root = word ORIGIN (2 ^ 13 - 1)
+originWord Root = word ORIGIN noParent
 originWord (From p j) = word ORIGIN (p * 16 + j)
 
-abbrev pub mostNodes : ℕ
-mostNodes = 512
-
-abbrev pub graphWords : ℕ
-graphWords = 9216
-
 -- ---- where the words stand
-abbrev pub header : ℕ
-header = 2
+abbrev pub originOffset : ℕ
+originOffset = 1
 
 abbrev pub stride : ℕ → ℕ
 stride a = header + a

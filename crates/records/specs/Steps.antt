@@ -13,7 +13,7 @@ use mathlib.Core.Path.{_≡_}
 use mathlib.Core.List.{List, [], _∷_, _++_, map}
 use lib.ListN.{length, drop, getD}
 use Rattle.search.specs.Search.{Graph, Result, Done, Over, count, links, edge, seek}
-use Rattle.records.specs.Records.{originWord, edgeWord, mostNodes, graphWords, recordPlace, edgePlace, recordsOf}
+use Rattle.records.specs.Records.{originWord, edgeWord, mostNodes, graphWords, originOffset, recordPlace, edgePlace, recordsOf}
 use Rattle.records.specs.declared.Explored.{Explored}
 use Rattle.records.specs.declared.Explored.the-variants.{Whole, Full}
 
@@ -33,7 +33,7 @@ pub record Kept (l₀ l : List ℕ) (a n x e : ℕ) (g : Graph) : Type 0 where
   pub width : length (g .edges) ≡ e
   pub words : column l a 0 n ≡ g .words
   pub apart : Firsts (g .words)
-  pub origins : column l a 1 n ≡ map originWord (g .origins)
+  pub origins : column l a originOffset n ≡ map originWord (g .origins)
   pub edges : (i j : ℕ) → j < a → i * a + j < e → getD l (edgePlace a i j) 0 ≡ edgeWord (edge a g i j)
   pub rest : drop (recordPlace a n) l ≡ drop (recordPlace a n) l₀
 

@@ -4,7 +4,7 @@ ghost use mathlib.Core.List.{_++_};
 ghost use Prim.Native.Nat.{_+_, _*_, _<_, _≤_};
 ghost use lib.ListN.{length, drop, getD, set, replicate};
 ghost use Rattle.search.specs.Search.{To, None, Root, From, seek, answered};
-ghost use Rattle.records.specs.Records.{edgeWord, originWord, mostNodes, graphWords, stride, recordPlace, edgePlace};
+ghost use Rattle.records.specs.Records.{edgeWord, originWord, mostNodes, header, graphWords, originOffset, stride, recordPlace, edgePlace};
 ghost use Rattle.records.specs.Steps.{column, hintCount, Firsts, Turned};
 use words::Kind;
 
@@ -19,11 +19,11 @@ pub enum Explored {
 // How many words of a record come before its edges: the node's word and its origin.
 const HEADER: usize = 2;
 
-// The most nodes that there may be.
-const NODES: usize = 512;
+// Where in a record the origin stands.
+pub const ORIGIN_OFFSET: usize = 1;
 
 // How many words the records have room in.
-pub const ROOM: usize = 9216;
+pub const ROOM: usize = words::NODES * (HEADER + words::ACTIONS);
 
 // Where the record of node k begins.
 pub fn record_place(actions: usize, k: usize) -> usize
@@ -46,8 +46,7 @@ fn edge_word(m: usize) -> u32
     requires { ⌜ m < mostNodes ⌝ }
     ensures { λ r. ⌜ r ≡ edgeWord (To m) ⌝ }
 {
-    let kind = Kind::EDGE;
-    kind.0 * 268435456 + m as u32
+    Kind::EDGE.word(m as u32)
 }
 
 // The word of a node's origin: node k, by action j.
@@ -55,8 +54,14 @@ fn origin_word(k: usize, j: usize) -> u32
     requires { ⌜ (k < mostNodes) × (j < 16) ⌝ }
     ensures { λ r. ⌜ r ≡ originWord (From k j) ⌝ }
 {
-    let kind = Kind::ORIGIN;
-    kind.0 * 268435456 + (k as u32 * 16 + j as u32)
+    Kind::ORIGIN.word(k as u32 * 16 + j as u32)
+}
+
+// The word of the origin of node 0.
+pub fn root_word() -> u32
+    ensures { λ r. ⌜ r ≡ originWord Root ⌝ }
+{
+    Kind::ORIGIN.word(words::NO_PARENT)
 }
 
 // The first n words become zero.
@@ -71,25 +76,6 @@ pub fn clear(list: &mut [u32], n: usize)
     }
 }
 
-// The first of n nodes whose word is w, or n.
-fn find(graph: &[u32], n: usize, actions: usize, w: u32) -> usize
-    requires { ⌜ (graphWords ≤ length (now graph)) × (n ≤ mostNodes) × (actions ≤ 16) ⌝ }
-    ensures { λ r. ⌜ r ≡ seek w (column (now (graph .entry)) actions 0 n) ⌝ }
-{
-    let step = HEADER + actions;
-    let mut i: usize = 0;
-    let at = loop {
-        if n <= i {
-            break i;
-        }
-        if graph[i * step] == w {
-            break i;
-        }
-        i += 1;
-    };
-    at
-}
-
 // Where the table of hints speaks of the word w. Any factor would do; with this one few sets of literals share a place.
 fn hint_place(w: u32) -> usize
     ensures { λ r. ⌜ r < hintCount ⌝ }
@@ -97,18 +83,29 @@ fn hint_place(w: u32) -> usize
     (w as u64 * 3116128017 / 1048576 % 4096) as usize
 }
 
-// The same, asking first where the hints say; they may say anything. Where all words differ, a word that is found is found first.
-fn find_near(graph: &[u32], hints: &[u16], n: usize, actions: usize, w: u32) -> usize
-    requires { ⌜ (graphWords ≤ length (now graph)) × (hintCount ≤ length (now hints)) × (n ≤ mostNodes) × (actions ≤ 16) ⌝ }
-    ensures { λ r. ⌜ (Firsts (column (now (graph .entry)) actions 0 n) → r ≡ seek w (column (now (graph .entry)) actions 0 n)) ⌝ }
+// Which of n nodes has the word w, or n: the first one tried is the hint's, which may be any, then all from the last one down. Where all words
+// differ, the one that is found is the first.
+fn find(graph: &[u32], hints: &[u16], n: usize, actions: usize, w: u32) -> usize
+    requires { ⌜ (graphWords ≤ length (now graph)) × (hintCount ≤ length (now hints)) × (0 < n) × (n ≤ mostNodes) × (actions ≤ 16) ⌝ }
+    ensures { λ r. ⌜ (r ≤ n) × (Firsts (column (now (graph .entry)) actions 0 n) → r ≡ seek w (column (now (graph .entry)) actions 0 n)) ⌝ }
 {
-    let h = (hints[hint_place(w)] % 512) as usize;
-    if h < n {
-        if graph[h * (HEADER + actions)] == w {
-            return h;
-        }
+    let step = HEADER + actions;
+    let mut i = hints[hint_place(w)] as usize;
+    if n <= i {
+        i = 0;
     }
-    find(graph, n, actions, w)
+    let mut left = n;
+    let at = loop {
+        if graph[i * step] == w {
+            break i;
+        }
+        if left == 0 {
+            break n;
+        }
+        left -= 1;
+        i = left;
+    };
+    at
 }
 
 // The word of node k.
@@ -122,11 +119,11 @@ pub fn word_at(graph: &[u32], actions: usize, k: usize) -> u32
 
 // Node 0, as yet without edges.
 pub fn begin(graph: &mut [u32], w: u32)
-    requires { ⌜ 2 ≤ length (now graph) ⌝ }
-    ensures { λ _. ⌜ now (graph .exit) ≡ set (set (now (graph .entry)) 0 w) 1 (originWord Root) ⌝ }
+    requires { ⌜ header ≤ length (now graph) ⌝ }
+    ensures { λ _. ⌜ now (graph .exit) ≡ set (set (now (graph .entry)) 0 w) originOffset (originWord Root) ⌝ }
 {
     graph[0] = w;
-    graph[1] = 0xB000_1FFF;
+    graph[ORIGIN_OFFSET] = root_word();
 }
 
 // Action j has no successor at node k.
@@ -142,7 +139,7 @@ pub fn enter_none(
     ensures { λ r. ⌜ Turned (λ h. answered mostNodes h (From k j) None) (now (graph .entry)) actions nodes edges (k * actions + j) r (now (graph .exit)) (k * actions + j + 1) ⌝ }
 {
     let place = edge_place(actions, k, j);
-    graph[place] = 0xCFFF_FFFF;
+    graph[place] = Kind::EDGE.word(words::NO_NODE);
     Explored::Whole(nodes, edges)
 }
 
@@ -161,20 +158,20 @@ pub fn enter(
     ensures turn { λ r. ⌜ Turned (λ h. answered mostNodes h (From k j) (To w)) (now (graph .entry)) actions nodes edges (k * actions + j) r (now (graph .exit)) (k * actions + j + 1) ⌝ }
     ensures hints { λ _. ⌜ hintCount ≤ length (now (hints .exit)) ⌝ }
 {
-    let at = find_near(&graph[..], &hints[..], nodes, actions, w);
+    let at = find(&graph[..], &hints[..], nodes, actions, w);
     let known = hint_place(w);
-    hints[known] = (at % 512) as u16;
+    hints[known] = at as u16;
     let place = edge_place(actions, k, j);
     if at < nodes {
         graph[place] = edge_word(at);
         return Explored::Whole(nodes, edges + 1);
     }
-    if nodes == NODES {
+    if nodes == words::NODES {
         return Explored::Full;
     }
     let new = record_place(actions, nodes);
     graph[new] = w;
-    graph[new + 1] = origin_word(k, j);
+    graph[new + ORIGIN_OFFSET] = origin_word(k, j);
     graph[place] = edge_word(nodes);
     Explored::Whole(nodes + 1, edges + 1)
 }

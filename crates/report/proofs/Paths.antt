@@ -4,7 +4,7 @@ use mathlib.Core.List.{List, [], _∷_, _++_, map, reverse, reverse-cons}
 use Prim.Native.Nat.{ℕ, zero, suc, _-_, _*_, _<_, _≤_}
 use native.Mathlib.Omega.{arith}
 use lib.ListN.{length, drop, replicate, length-append, length-reverse, length-replicate, drop-of-length-le}
-use Rattle.words.specs.Words.{word, kindOf, payload}
+use Rattle.words.specs.Words.{word, kindOf, payload, STEP}
 use Rattle.grammar.specs.Programs.{Program}
 use Rattle.grammar.specs.WellFormed.{Each, WellFormed}
 use Rattle.lemmas.specs.Lemmas.{Lemma}
@@ -13,7 +13,7 @@ use Rattle.search.specs.Paths.{hop, back}
 use Rattle.search.proofs.Theorem.{whole}
 use Rattle.records.specs.Records.{mostNodes}
 use Rattle.abstraction.specs.Abstraction.{start, answer, graph}
-use Rattle.verdict.specs.Verdicts.{STEP, pathWords, pathList, stepsTo}
+use Rattle.verdict.specs.Verdicts.{pathWords, pathList, stepsTo}
 use Rattle.verdict.specs.Working.{Earlier, Traced}
 use Rattle.verdict.proofs.Traces.{traced}
 use Rattle.judge.proofs.Walks.{next}

@@ -19,14 +19,14 @@ use Prim.Native.Nat.{ℕ, suc, _/_, _%_}
 use lib.Dec.{eqb, ltb}
 use lib.ListN.{length, take, drop, replicate}
 use Rattle.words.specs.declared.Refusal.{Refusal}
-use Rattle.words.specs.Words.{kindOf, payload, END}
+use Rattle.words.specs.Words.{kindOf, payload, STEP, END}
 use Rattle.words.specs.Refusals.{number, value}
 use Rattle.grammar.specs.Reading.{got}
 use Rattle.grammar.specs.Programs.{Program}
 use Rattle.programs.specs.Calls.{read}
 use Rattle.runs.specs.Runs.{Safe}
 use Rattle.records.specs.Records.{graphWords}
-use Rattle.verdict.specs.Verdicts.{STEP, pathWords}
+use Rattle.verdict.specs.Verdicts.{pathWords}
 use Rattle.judge.specs.Calls.{Judgement, judge}
 use Rattle.judge.specs.declared.Judged.{Judged}
 use Rattle.judge.specs.declared.Judged.the-variants.{MayForbid, MayRunOff, Refused}

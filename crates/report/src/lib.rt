@@ -3,6 +3,8 @@ ghost use mathlib.Core.Path.{_≡_};
 ghost use mathlib.Core.List.{List, _++_};
 ghost use Prim.Native.Nat.{ℕ, _+_, _<_, _≤_};
 ghost use lib.ListN.{length, drop};
+ghost use Rattle.records.specs.Records.{graphWords};
+ghost use Rattle.verdict.specs.Verdicts.{pathWords};
 ghost use Rattle.lines.specs.Text.{Put, text};
 ghost use Rattle.report.specs.Report.{mostBytes, linesRoom, logicLength, wordsIn, zeros, judged, stepsIn, endText, runOffLine, refusedLine, stepText, pathLine, answerLines, judgementLines, showLines, linesOf, shown, Begins, SafeShow};
 use judge::Judged;
@@ -95,18 +97,18 @@ fn put_answer(out: &mut [u8], answer: Judged, path: &[u32]) -> usize
     }
 }
 
-// A fresh graph list. The contract names the list, so that no caller sees its 9,216 zeros.
-fn graph_list() -> [u32; 9216]
-    ensures { λ r. ⌜ (9216 ≡ length r) × (r ≡ zeros 9216) ⌝ }
+// A fresh graph list. The contract names the list, so that no caller sees its zeros.
+fn graph_list() -> [u32; records::ROOM]
+    ensures { λ r. ⌜ (graphWords ≡ length r) × (r ≡ zeros graphWords) ⌝ }
 {
-    [0; 9216]
+    [0; records::ROOM]
 }
 
 // A fresh path list.
-fn path_list() -> [u32; 512]
-    ensures { λ r. ⌜ (512 ≡ length r) × (r ≡ zeros 512) ⌝ }
+fn path_list() -> [u32; verdict::PATH_ROOM]
+    ensures { λ r. ⌜ (pathWords ≡ length r) × (r ≡ zeros pathWords) ⌝ }
 {
-    [0; 512]
+    [0; verdict::PATH_ROOM]
 }
 
 // The lines of a logic and its lemmas.

@@ -10,6 +10,7 @@ use mathlib.Core.List.{List, [], _∷_, map}
 use Prim.Native.Nat.{ℕ, suc, _≤_, _<_}
 use lib.ListN.{length, getD}
 use Rattle.rows.specs.Rows.{in64}
+use Rattle.words.specs.Limits.{mostLemmas}
 use Rattle.grammar.specs.Reading.{Read, got, refused}
 use Rattle.grammar.specs.Programs.{Program}
 use Rattle.grammar.specs.WellFormed.{Few}
@@ -35,7 +36,7 @@ theLemmas p ws = lemmasOr (readLemmas p ws)
 
 pub record Begun (p : Program) (ws begin : List ℕ) (count : ℕ) (ls : List Lemma) : Type 0 where
   pub counted : count ≡ length ls
-  pub good : Few 512 (LemmaOk p) ls
+  pub good : Few mostLemmas (LemmaOk p) ls
   pub here : (k : ℕ) → k < count → IsLemma p ws (getD begin k 0) × (theLemma p ws (getD begin k 0) ≡ getD ls k noLemma)
 
 pub record Tabled (p : Program) (ls : List Lemma) (t : Tables) : Type 0 where

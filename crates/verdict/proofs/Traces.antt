@@ -11,7 +11,7 @@ use borrow.Author.Tests.{eq-eqb, ne-eqb}
 use lib.Dec.{eqb}
 use lib.ListN.{length, take, drop, set, replicate, length-map, length-reverse, length-set, take-append-drop, drop-of-length-le}
 use lib.Seq.{set-split, drop-at, take-at, take-all, length-take-le}
-use Rattle.words.specs.Words.{word}
+use Rattle.words.specs.Words.{word, STEP}
 use Rattle.search.specs.Search.{Answer, Origin, Root, From, Graph, Done, count, origin}
 use Rattle.search.specs.Paths.{hop, back}
 use Rattle.search.proofs.Sound.{Comes}
@@ -19,7 +19,7 @@ use Rattle.search.proofs.Theorem.{Whole}
 use Rattle.records.specs.Records.{originWord, mostNodes, graphWords, recordPlace, graphList}
 use Rattle.records.proofs.Places.{zeros-left}
 use Rattle.records.proofs.Listed.{record-at}
-use Rattle.verdict.specs.Verdicts.{STEP, pathWords, pathList, stepsTo}
+use Rattle.verdict.specs.Verdicts.{pathWords, pathList, stepsTo}
 use Rattle.verdict.specs.Working.{originAt, hopIf, backAt, Earlier, Traced}
 
 module _ (l : List ℕ) (a f k : ℕ) where

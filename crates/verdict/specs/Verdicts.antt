@@ -9,12 +9,14 @@
 -- runsOff   — those ends, of the actions from j on that have a successor at a node with the literals m
 -- findingsAt, findingsFrom, findings — at node k; from node k on; of the graph
 -- nodeOf    — the node of a finding
--- stepWord, pathList — the path in its list: STEP words, then zeros up to 512, then what was there
+-- pathList  — the path in its list: STEP words, then zeros up to its room, then what was there
+-- stepsTo   — the steps to node k
 use mathlib.Core.Bool.{Bool, true, false, cond, _||_}
 use mathlib.Core.List.{List, [], _∷_, _++_, map}
 use Prim.Native.Nat.{ℕ, zero, suc, _-_}
 use lib.ListN.{length, drop, replicate}
-use Rattle.words.specs.Words.{word}
+use Rattle.words.specs.Words.{word, STEP}
+pub use Rattle.words.specs.Limits.{pathWords}
 use Rattle.words.specs.declared.Literals.{Literals}
 use Rattle.grammar.specs.Programs.{Assignment, Action, Program}
 use Rattle.lemmas.specs.Lemmas.{Goal, NotBelow, NotAbove, Lemma}
@@ -79,12 +81,6 @@ nodeOf (Forbid k b) = k
 nodeOf (RunOff k j v high) = k
 
 -- The STEP words from node 0 to the node, at the front of the path list, the rest of its first 512 words zero.
-abbrev pub STEP : ℕ
-STEP = 13
-
-abbrev pub pathWords : ℕ
-pathWords = 512
-
 abbrev pub pathList : List ℕ → List ℕ → List ℕ
 pathList js l₀ = map (word STEP) js ++ (replicate (pathWords - length js) 0 ++ drop pathWords l₀)
 

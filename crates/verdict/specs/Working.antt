@@ -29,7 +29,7 @@ use Rattle.gather.specs.declared.Successor.{Successor}
 use Rattle.gather.specs.declared.Successor.the-variants.{Set}
 use Rattle.gather.specs.declared.Successor.the-variants.{Nothing as NoSet}
 use Rattle.search.specs.Search.{Origin, Root, From, Graph, Done, count, origin}
-use Rattle.records.specs.Records.{originWord, mostNodes, recordPlace, graphList}
+use Rattle.records.specs.Records.{originWord, mostNodes, originOffset, recordPlace, graphList}
 use Rattle.words.specs.LiteralSets.{literalsIn, has}
 use Rattle.abstraction.specs.Abstraction.{applies, successor}
 use Rattle.verdict.specs.Verdicts.{Finding, Forbid, RunOff, hasNext}
@@ -40,7 +40,7 @@ use Rattle.verdict.specs.declared.Found.the-variants.{RunOff as MayRunOf
 
 -- ---- the path
 abbrev pub originAt : List ℕ → ℕ → ℕ → ℕ
-originAt l a k = getD l (recordPlace a k + 1) 0
+originAt l a k = getD l (recordPlace a k + originOffset) 0
 
 -- the test: is it the origin of node 0
 abbrev pub hopIf : Bool → ℕ → (ℕ → List ℕ) → List ℕ

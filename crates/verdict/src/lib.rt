@@ -3,21 +3,22 @@ ghost use mathlib.Core.Path.{_≡_};
 ghost use mathlib.Core.List.{List, [], _++_, map, reverse};
 ghost use Prim.Native.Nat.{ℕ, _+_, _/_, _%_, _^_, _<_, _≤_};
 ghost use lib.ListN.{length, drop, take};
-ghost use Rattle.words.specs.Words.{word};
+ghost use Rattle.words.specs.Words.{word, STEP};
 ghost use Rattle.grammar.specs.Programs.{Program};
 ghost use Rattle.lemmas.specs.Lemmas.{Lemma};
 ghost use Rattle.lemmas.specs.Sources.{theProgram, Held};
 ghost use Rattle.gather.specs.Gathering.{entries, successorOf};
 ghost use Rattle.search.specs.Search.{Graph, Done, count};
 ghost use Rattle.records.specs.Records.{mostNodes, graphWords, graphList};
-ghost use Rattle.verdict.specs.Verdicts.{findingsAt, findings, STEP, pathWords, pathList, stepsTo};
+ghost use Rattle.verdict.specs.Verdicts.{findingsAt, findings, pathWords, pathList, stepsTo};
 ghost use Rattle.verdict.specs.Working.{originAt, backAt, Traced, endsTo, askedEnds, foundOf, Within, firstFree, given, firstUnshown, Judging};
 use gather::Successor;
 use programs::Image;
+use words::Kind;
 use words::Literals;
 
 // How many words the path has room in.
-pub const ROOM: usize = 512;
+pub const PATH_ROOM: usize = 512;
 
 // The origin word of node k.
 fn origin_at(graph: &[u32], actions: usize, k: usize) -> u32
@@ -25,14 +26,14 @@ fn origin_at(graph: &[u32], actions: usize, k: usize) -> u32
     ensures { λ r. ⌜ r ≡ originAt (now (graph .entry)) actions k ⌝ }
 {
     let at = records::record_place(actions, k);
-    graph[at + 1]
+    graph[at + records::ORIGIN_OFFSET]
 }
 
 // The parent that an origin word names.
 fn parent(o: u32) -> usize
     ensures { λ r. ⌜ (r ≡ o / 16 % mostNodes) × (r < mostNodes) ⌝ }
 {
-    (o / 16 % 512) as usize
+    (o / 16) as usize % words::NODES
 }
 
 // How many steps lead to the node.
@@ -42,9 +43,9 @@ fn count_steps(graph: &[u32], actions: usize, node: usize) -> usize
 {
     let mut k = node;
     let mut d: usize = 0;
-    while d < 512 {
+    while d < words::NODES {
         let o = origin_at(graph, actions, k);
-        if o == 0xB000_1FFF {
+        if o == records::root_word() {
             return d;
         }
         k = parent(o);
@@ -63,7 +64,7 @@ fn write_steps(graph: &[u32], actions: usize, node: usize, d: usize, path: &mut 
     while 0 < i {
         let o = origin_at(graph, actions, k);
         i -= 1;
-        path[i] = 0xD000_0000 + o % 16;
+        path[i] = Kind::STEP.word(o % 16);
         k = parent(o);
     }
 }
@@ -74,7 +75,7 @@ pub fn write_path(graph: &[u32], actions: usize, node: usize, path: &mut [u32])
     ensures { λ _. ⌜ ((g : Graph) (l₀ : List ℕ) → now (graph .entry) ≡ graphList actions (Done g) l₀ → Traced actions g → node < count g → now (path .exit) ≡ pathList (stepsTo g node) (now (path .entry))) ⌝ }
 {
     let d = count_steps(graph, actions, node);
-    records::clear(&mut *path, ROOM);
+    records::clear(&mut *path, PATH_ROOM);
     write_steps(graph, actions, node, d, &mut *path);
 }
 
@@ -83,7 +84,7 @@ pub fn clear_path(path: &mut [u32])
     requires { ⌜ pathWords ≤ length (now path) ⌝ }
     ensures { λ _. ⌜ now (path .exit) ≡ pathList [] (now (path .entry)) ⌝ }
 {
-    records::clear(&mut *path, ROOM);
+    records::clear(&mut *path, PATH_ROOM);
 }
 
 // The places of both ends of each variable that is set.

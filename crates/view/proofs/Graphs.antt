@@ -9,14 +9,14 @@ use native.Mathlib.Omega.{arith}
 use borrow.Author.Tests.{ne-eqb}
 use lib.Dec.{eqb}
 use lib.ListN.{length, drop, replicate, length-append}
-use Rattle.words.specs.Words.{word, kindOf, payload}
+use Rattle.words.specs.Words.{word, kindOf, payload, EDGE, noNode}
 use Rattle.search.specs.Search.{Answer, To, Graph, Done, count, edge, explored}
 use Rattle.search.specs.Search.{None as Nowhere}
 use Rattle.search.proofs.Sound.{Leads}
 use Rattle.search.proofs.Theorem.{to-inj, not-none, whole}
-use Rattle.records.specs.Records.{EDGE, edgeWord, mostNodes, graphWords, recordPlace, edgePlace, recordsOf, graphList}
+use Rattle.records.specs.Records.{edgeWord, mostNodes, graphWords, recordPlace, edgePlace, recordsOf, graphList}
 use Rattle.records.proofs.Listed.{records-length, edge-at}
-use Rattle.view.specs.Views.{noNode, edgeOf, viewed, shown}
+use Rattle.view.specs.Views.{edgeOf, viewed, shown}
 use Rattle.view.proofs.Reading.{word-there}
 
 -- the word of an edge is read as the edge

@@ -1,25 +1,21 @@
 -- What a view over a graph list answers.
 --
--- noNode — the payload of an EDGE word that names no successor
 -- edgeOf — what a word, which stands at a place, says of a successor
 -- viewed — the answer for a list, a number of nodes, a number of actions, a node and an action
 -- shown  — a graph's edge as an answer
-use Prim.Native.Nat.{ℕ, _-_, _^_}
+use Prim.Native.Nat.{ℕ}
 use mathlib.Core.Bool.{cond}
 use mathlib.Core.List.{List}
 use lib.ListN.{length, getD}
 use lib.Dec.{ltb, leb, eqb}
-use Rattle.words.specs.Words.{kindOf, payload}
+use Rattle.words.specs.Words.{kindOf, payload, EDGE, noNode}
+use Rattle.words.specs.Limits.{mostActions}
 use Rattle.words.specs.declared.Refusal.the-variants.{Short, Word, Limit, Absent}
 use Rattle.search.specs.Search.{Answer, To}
 use Rattle.search.specs.Search.{None as Nowhere}
-use Rattle.records.specs.Records.{EDGE, mostNodes, recordPlace, edgePlace}
+use Rattle.records.specs.Records.{mostNodes, recordPlace, edgePlace}
 use Rattle.view.specs.declared.Viewed.{Viewed}
 use Rattle.view.specs.declared.Viewed.the-variants.{Node, None, Refused}
-
--- all 28 bits ones
-abbrev pub noNode : ℕ
-noNode = 2 ^ 28 - 1
 
 abbrev pub edgeOf : ℕ → ℕ → Viewed
 edgeOf w at = cond (eqb (kindOf w) EDGE) (cond (eqb (payload w) noNode) None (Node (payload w))) (Refused (Word at))
@@ -28,7 +24,7 @@ edgeOf w at = cond (eqb (kindOf w) EDGE) (cond (eqb (payload w) noNode) None (No
 unfoldable pub viewed : List ℕ → ℕ → ℕ → ℕ → ℕ → Viewed
 viewed l nodes actions node action =
     cond (ltb mostNodes nodes) (Refused (Limit 0))
-    (cond (ltb 16 actions) (Refused (Limit 0))
+    (cond (ltb mostActions actions) (Refused (Limit 0))
     (cond (ltb (length l) (recordPlace actions nodes)) (Refused (Short 0))
     (cond (leb nodes node) (Refused (Absent node))
     (cond (leb actions action) (Refused (Absent action))

@@ -28,7 +28,7 @@ fn edge_of(w: u32, at: usize) -> Viewed
         return Viewed::Refused(Refusal::Word(at));
     }
     let to = words::count(w);
-    if to == 0xFFF_FFFF {
+    if to == words::NO_NODE as usize {
         return Viewed::None;
     }
     Viewed::Node(to)
@@ -44,10 +44,10 @@ pub fn successor_at(
 ) -> Viewed
     ensures { λ r. ⌜ r ≡ viewed (now (graph .entry)) nodes actions node action ⌝ }
 {
-    if 512 < nodes {
+    if words::NODES < nodes {
         return Viewed::Refused(Refusal::Limit(0));
     }
-    if 16 < actions {
+    if words::ACTIONS < actions {
         return Viewed::Refused(Refusal::Limit(0));
     }
     // A record is as long as the place where the second one begins.

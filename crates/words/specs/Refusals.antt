@@ -3,6 +3,7 @@
 -- number — the refusal's number
 -- value  — the number returned with it
 use Prim.Native.Nat.{ℕ}
+use Rattle.words.specs.Limits.{mostNodes}
 use Rattle.words.specs.declared.Refusal.{Refusal}
 use Rattle.words.specs.declared.Refusal.the-variants.{Short, Word, Limit, Value, Lemma, Lemmas, Nodes, Absent, Length, State, Sum}
 
@@ -26,7 +27,7 @@ value (Limit n) = n
 value (Value n) = n
 value (Lemma n) = n
 value (Lemmas n) = n
-value Nodes = 512
+value Nodes = mostNodes
 value (Absent n) = n
 value (Length n) = n
 value (State n) = n

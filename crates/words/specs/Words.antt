@@ -5,6 +5,7 @@
 -- payload    — the payload, bits 27 to 0
 -- word       — the word of a kind and a payload
 -- VAR .. END — the kinds
+-- noNode, noParent — the payload of an EDGE that names no successor; that of node 0's ORIGIN
 -- signedBy, signed — the number that a field stands for, in two's complement
 -- unsigned   — the bits of a number
 -- literals   — a set of literals from its two sets of predicates
@@ -60,8 +61,25 @@ LEMMA = 9
 abbrev pub MULT : ℕ
 MULT = 10
 
+abbrev pub ORIGIN : ℕ
+ORIGIN = 11
+
+abbrev pub EDGE : ℕ
+EDGE = 12
+
+abbrev pub STEP : ℕ
+STEP = 13
+
 abbrev pub END : ℕ
 END = 15
+
+-- all 28 bits ones for none
+abbrev pub noNode : ℕ
+noNode = 2 ^ 28 - 1
+
+-- bits 12..0 all ones for node 0
+abbrev pub noParent : ℕ
+noParent = 2 ^ 13 - 1
 
 -- two's complement in `wide` bits: the number that n stands for, and the bits of z
 abbrev pub signedBy : ℕ → ℕ → ℤ

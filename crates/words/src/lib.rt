@@ -2,8 +2,20 @@
 ghost use mathlib.Core.Path.{_≡_};
 ghost use Prim.Native.Nat.{_+_, _*_, _<_, _≤_, _^_, _/_, _%_};
 ghost use lib.Dec.{eqb};
-ghost use Rattle.words.specs.Words.{bits, signed, signedBy, kindOf, payload, literals, literalsOf};
+ghost use Rattle.words.specs.Words.{bits, signed, signedBy, kindOf, payload, word, literals, literalsOf};
 ghost use Rattle.words.specs.Refusals.{number, value};
+
+// The most actions of a program.
+pub const ACTIONS: usize = 16;
+
+// The source of a lemma that stands for the start.
+pub const START: u32 = 255;
+
+// The most nodes of a graph.
+pub const NODES: usize = 512;
+
+// How many payloads there are: a payload has 28 bits.
+const PAYLOADS: u32 = 268435456;
 
 // The kind of a word, its bits 31 to 28.
 pub struct Kind(pub u32);
@@ -38,10 +50,18 @@ impl Kind {
     pub const END: Kind = Kind(15);
 
     // The kind of a word.
-    pub fn of(word: u32) -> Kind
-        ensures { λ r. ⌜ r .0 ≡ kindOf word ⌝ }
+    pub fn of(w: u32) -> Kind
+        ensures { λ r. ⌜ r .0 ≡ kindOf w ⌝ }
     {
-        Kind(word / 268435456)
+        Kind(w / PAYLOADS)
+    }
+
+    // The word of this kind and a payload.
+    pub fn word(self, p: u32) -> u32
+        requires { ⌜ (self .0 < 16) × (p < 2 ^ 28) ⌝ }
+        ensures { λ r. ⌜ r ≡ word (self .0) p ⌝ }
+    {
+        self.0 * PAYLOADS + p
     }
 
     pub fn is(self, other: Kind) -> bool
@@ -50,6 +70,12 @@ impl Kind {
         self.0 == other.0
     }
 }
+
+// The payload of an EDGE word that names no successor: all 28 bits ones.
+pub const NO_NODE: u32 = PAYLOADS - 1;
+
+// The payload of the ORIGIN word of node 0: bits 12 to 0 all ones.
+pub const NO_PARENT: u32 = 8191;
 
 // n read in two's complement, where the numbers from `half` on are negative.
 fn signed_by(n: u32, half: u32) -> i64
@@ -83,7 +109,7 @@ pub fn high_end(w: u32) -> i64
 pub fn constant(w: u32) -> i64
     ensures { λ r. ⌜ r ≡ signed 28 (payload w) ⌝ }
 {
-    signed_by(w % 268435456, 134217728)
+    signed_by(w % PAYLOADS, PAYLOADS / 2)
 }
 
 // The variable in a TERM word.
@@ -104,7 +130,7 @@ pub fn coefficient(w: u32) -> i64
 pub fn count(w: u32) -> usize
     ensures { λ r. ⌜ r ≡ payload w ⌝ }
 {
-    (w % 268435456) as usize
+    (w % PAYLOADS) as usize
 }
 
 // The number of guard rows in an ACTION word.
@@ -156,10 +182,10 @@ impl Literals {
     }
 
     // The set in a SETS word.
-    pub fn of(word: u32) -> Literals
-        ensures { λ r. ⌜ r ≡ literalsOf word ⌝ }
+    pub fn of(w: u32) -> Literals
+        ensures { λ r. ⌜ r ≡ literalsOf w ⌝ }
     {
-        Literals::new(word / 16384 % 16384, word % 16384)
+        Literals::new(w / 16384 % 16384, w % 16384)
     }
 }
 
@@ -219,7 +245,7 @@ pub fn value_of(r: Refusal) -> usize
         Refusal::Value(n) => n,
         Refusal::Lemma(n) => n,
         Refusal::Lemmas(n) => n,
-        Refusal::Nodes => 512,
+        Refusal::Nodes => NODES,
         Refusal::Absent(n) => n,
         Refusal::Length(n) => n,
         Refusal::State(n) => n,

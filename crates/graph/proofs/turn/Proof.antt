@@ -19,11 +19,14 @@ abbrev μ-loop : tie.MeasureT-loop
 word-at-requires : tie.Need-word-at-requires Inv-loop μ-loop
 word-at-requires c κs = search needs
 
+of-requires : tie.Need-of-requires Inv-loop μ-loop
+of-requires c κs = search needs
+
 gather-all-requires : tie.Need-gather-all-requires Inv-loop μ-loop
 gather-all-requires c κs = search needs
 
 loop-holds : tie.Need-loop-holds Inv-loop μ-loop
-loop-holds c = let a = c .before .before .before .before .before .before .before .args in
+loop-holds c = let a = c .before .before .before .before .before .before .before .before .args in
     (begun (nextOf (entries (a .premises .now) (a .keys .now) (a .n))) (a .graph .now) (a .nodes) (a .edges) (a .k) (a .actions) (omega arith) (omega arith), refl)
 
 mul-act : tie.Need-mul-act Inv-loop μ-loop
@@ -51,10 +54,11 @@ returns : tie.Need-returns Inv-loop μ-loop
 returns c =
     let q = c .before .before .before .before .before .before in
     let l = q .before .before .before .before in
-    let a = l .before .before .before .before .before .before .before .before .args in
+    let s = l .before .before .before .before .before .before .before .before .before in
+    let a = s .args in
     let es = entries (a .premises .now) (a .keys .now) (a .n) in
-    stopped (nextOf es) (a .graph .now) (a .nodes) (a .edges) (a .k) (a .actions) (l .loop .graph) (l .loop .m) (l .loop .x) (l .loop .j) (l .loop .inv .0) (omega arith) _
-    (table-gives es _ _ (l .before .gather-all .result) (l .loop .j) (l .before .before .word-at .ensures) (l .before .gather-all .ensures) (omega arith))
+    stopped (nextOf es) (a .graph .now) (a .nodes) (a .edges) (a .k) (a .actions) (l .loop .graph) (l .loop .m) (l .loop .x) (l .loop .j) (l .loop .inv .0) (omega (arith, l .loop .inv .0, s .pre)) _
+    (table-gives es _ _ _ (l .before .gather-all .result) (l .loop .j) (l .before .before .before .word-at .ensures) (l .before .before .of .ensures) (l .before .gather-all .ensures) (omega arith))
     (q .act .result) (q .act .last .0) (omega arith) (q .act .ensures) (c .enum-told .given .1)
 
 add-j : tie.Need-add-j Inv-loop μ-loop
@@ -67,11 +71,12 @@ loop-again : tie.Need-loop-again Inv-loop μ-loop
 loop-again c =
     let q = c .before .before .before .before .before .before .before in
     let l = q .before .before .before .before in
-    let a = l .before .before .before .before .before .before .before .before .args in
+    let s = l .before .before .before .before .before .before .before .before .before in
+    let a = s .args in
     let es = entries (a .premises .now) (a .keys .now) (a .n) in
     let same : length (q .act .last .1 .0) ≡ length (l .loop .hints) = q .act .kept .1 .0 in (
-      went (nextOf es) (a .graph .now) (a .nodes) (a .edges) (a .k) (a .actions) (l .loop .graph) (l .loop .m) (l .loop .x) (l .loop .j) (l .loop .inv .0) (omega arith) _
-          (table-gives es _ _ (l .before .gather-all .result) (l .loop .j) (l .before .before .word-at .ensures) (l .before .gather-all .ensures) (omega arith))
+      went (nextOf es) (a .graph .now) (a .nodes) (a .edges) (a .k) (a .actions) (l .loop .graph) (l .loop .m) (l .loop .x) (l .loop .j) (l .loop .inv .0) (omega (arith, l .loop .inv .0, s .pre)) _
+          (table-gives es _ _ _ (l .before .gather-all .result) (l .loop .j) (l .before .before .before .word-at .ensures) (l .before .before .of .ensures) (l .before .gather-all .ensures) (omega arith))
           (q .act .result) (q .act .last .0) (omega arith) (q .act .ensures) _ _ (c .before .r .given .1) (q .act .kept .0),
       same ∙ l .loop .inv .1,
     )
@@ -83,7 +88,7 @@ same-length-4 : tie.Need-same-length-4 Inv-loop μ-loop
 same-length-4 c = search needs
 
 returns-2 : tie.Need-returns-2 Inv-loop μ-loop
-returns-2 c = let a = c .before .before .before .before .before .before .before .before .before .args in
+returns-2 c = let a = c .before .before .before .before .before .before .before .before .before .before .args in
     let l = c .before .loop in
     gone (nextOf (entries (a .premises .now) (a .keys .now) (a .n))) (a .graph .now) (a .nodes) (a .edges) (a .k) (a .actions) (l .graph) (l .m) (l .x) (l .j) (l .inv .0) (omega arith)
 
@@ -94,6 +99,7 @@ turn-spec =
     Inv-loop
     μ-loop
     word-at-requires
+    of-requires
     gather-all-requires
     loop-holds
     mul-act

@@ -7,8 +7,8 @@ use borrow.Author.Needs.{needs}
 use Rattle.records.proofs.enter.Statement.{statement}
 use Rattle.records.proofs.enter.Tie as tie
 
-find-near-requires : tie.Need-find-near-requires
-find-near-requires c κs = search needs
+find-requires : tie.Need-find-requires
+find-requires c κs = search needs
 
 hint-place-requires : tie.Need-hint-place-requires
 hint-place-requires c κs = search needs
@@ -34,8 +34,8 @@ mul-graph c = search needs
 slice-write-graph : tie.Need-slice-write-graph
 slice-write-graph c = search needs
 
-add-t23 : tie.Need-add-t23
-add-t23 c = search needs
+add-t22 : tie.Need-add-t22
+add-t22 c = search needs
 
 same-length : tie.Need-same-length
 same-length c = search needs
@@ -49,7 +49,7 @@ returns c =
     let q = p .before .before .before .before .before in
     let a = q .args in
     rw (c .before .before .edge-place .ensures .0)
-    (known (a .graph .now) (a .actions) (a .nodes) (a .edges) (a .k) (a .j) (omega arith) (omega arith) (omega arith) (omega arith) (omega arith) (omega arith) (From (a .k) (a .j)) (a .w) (c .edge-word .result) (p .find-near .result) (p .find-near .ensures) (c .before .if1 .taken) (c .edge-word .ensures), simp length-set (omega arith))
+    (known (a .graph .now) (a .actions) (a .nodes) (a .edges) (a .k) (a .j) (omega arith) (omega arith) (omega arith) (omega arith) (omega arith) (omega arith) (From (a .k) (a .j)) (a .w) (c .edge-word .result) (p .find .result) (p .find .ensures .1) (c .before .if1 .taken) (c .edge-word .ensures), simp length-set (omega arith))
 
 same-length-3 : tie.Need-same-length-3
 same-length-3 c = search needs
@@ -62,7 +62,7 @@ returns-2 c =
     let p = c .before .before .before .before in
     let q = p .before .before .before .before .before in
     let a = q .args in
-    (full (a .graph .now) (a .actions) (a .nodes) (a .edges) (a .k) (a .j) (omega arith) (omega arith) (omega arith) (omega arith) (omega arith) (omega arith) (From (a .k) (a .j)) (a .w) (p .find-near .result) (p .find-near .ensures) (c .before .if1 .left) (c .if2 .taken), simp length-set (omega arith))
+    (full (a .graph .now) (a .actions) (a .nodes) (a .edges) (a .k) (a .j) (omega arith) (omega arith) (omega arith) (omega arith) (omega arith) (omega arith) (From (a .k) (a .j)) (a .w) (p .find .result) (p .find .ensures .1) (c .before .if1 .left) (c .if2 .taken), simp length-set (omega arith))
 
 record-place-requires : tie.Need-record-place-requires
 record-place-requires c κs = search needs
@@ -94,11 +94,11 @@ mul-graph-4 c = search needs
 slice-write-graph-4 : tie.Need-slice-write-graph-4
 slice-write-graph-4 c = simp length-set (omega arith)
 
-add-t19 : tie.Need-add-t19
-add-t19 c = search needs
+add-t18 : tie.Need-add-t18
+add-t18 c = search needs
 
-add-t17 : tie.Need-add-t17
-add-t17 c = search needs
+add-t26 : tie.Need-add-t26
+add-t26 c = search needs
 
 same-length-5 : tie.Need-same-length-5
 same-length-5 c = search needs
@@ -115,13 +115,13 @@ returns-3 c =
     let t = s .before .before .before .before .before in
     let a = t .args in
     rw (r .edge-place .ensures .0, c .before .before .record-place .ensures .0)
-    (fresh (a .graph .now) (a .actions) (a .nodes) (a .edges) (a .k) (a .j) (omega arith) (omega arith) (omega arith) (omega arith) (omega arith) (omega arith) (From (a .k) (a .j)) (a .w) (c .edge-word2 .result) (c .before .origin-word .result) (s .find-near .result) (s .find-near .ensures) (q .if1 .left) (omega (arith, p .if2 .left)) (c .before .origin-word .ensures) (c .edge-word2 .ensures), simp length-set (omega arith))
+    (fresh (a .graph .now) (a .actions) (a .nodes) (a .edges) (a .k) (a .j) (omega arith) (omega arith) (omega arith) (omega arith) (omega arith) (omega arith) (From (a .k) (a .j)) (a .w) (c .edge-word2 .result) (c .before .origin-word .result) (s .find .result) (s .find .ensures .1) (q .if1 .left) (omega (arith, p .if2 .left)) (c .before .origin-word .ensures) (c .edge-word2 .ensures), simp length-set (omega arith))
 
 pub enter-spec : {M : Type 1} → statement M
 enter-spec =
     tie.close
     (tie.spec
-    find-near-requires
+    find-requires
     hint-place-requires
     cast-hints
     mul-hints
@@ -130,7 +130,7 @@ enter-spec =
     edge-word-requires
     mul-graph
     slice-write-graph
-    add-t23
+    add-t22
     same-length
     same-length-2
     returns
@@ -147,8 +147,8 @@ enter-spec =
     edge-word-requires-2
     mul-graph-4
     slice-write-graph-4
-    add-t19
-    add-t17
+    add-t18
+    add-t26
     same-length-5
     same-length-6
     returns-3)

@@ -1,4 +1,3 @@
-use mathlib.Core.Path.{refl}
 use native.Mathlib.Omega.{arith}
 use Rattle.search.specs.Search.{From}
 use Rattle.records.proofs.Stores.{none}
@@ -8,6 +7,9 @@ use Rattle.records.proofs.enter_none.Tie as tie
 
 edge-place-requires : tie.Need-edge-place-requires
 edge-place-requires c κs = search needs
+
+word-requires : tie.Need-word-requires
+word-requires c κs = search needs
 
 mul-graph : tie.Need-mul-graph
 mul-graph c = search needs
@@ -20,10 +22,11 @@ same-length c = search needs
 
 returns : tie.Need-returns
 returns c =
-    let a = c .before .before .args in
-    rw (c .edge-place .ensures .0)
-    (none (a .graph .now) (a .actions) (a .nodes) (a .edges) (a .k) (a .j) (omega arith) (omega arith) (omega arith) (omega arith) (omega arith) (omega arith) (From (a .k) (a .j)) _ refl)
+    let p = c .before in
+    let a = p .before .before .args in
+    rw (p .edge-place .ensures .0)
+    (none (a .graph .now) (a .actions) (a .nodes) (a .edges) (a .k) (a .j) (omega arith) (omega arith) (omega arith) (omega arith) (omega arith) (omega arith) (From (a .k) (a .j)) (c .word .result) (c .word .ensures))
 
 pub enter-none-spec : {M : Type 1} → statement M
 enter-none-spec =
-    tie.close (tie.spec edge-place-requires mul-graph slice-write-graph same-length returns)
+    tie.close (tie.spec edge-place-requires word-requires mul-graph slice-write-graph same-length returns)

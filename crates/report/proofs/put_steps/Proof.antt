@@ -6,8 +6,7 @@ use lib.Dec.{eqb}
 use lib.ListN.{length, getD}
 use borrow.Author.Needs.{needs}
 use borrow.Author.Tests.{not-true, not-false}
-use Rattle.words.specs.Words.{kindOf}
-use Rattle.verdict.specs.Verdicts.{STEP}
+use Rattle.words.specs.Words.{kindOf, STEP}
 use Rattle.report.proofs.Steps.{Stepping, none-yet, step-fits, one-more, stops, passed}
 use Rattle.report.proofs.put_steps.Statement.{statement}
 use Rattle.report.proofs.put_steps.Tie as tie

@@ -1,5 +1,6 @@
 -- The steps taken and the steps left are all: `Counting`. The measure is what is left of the nodes.
 use Prim.Native.Nat.{_-_}
+use mathlib.Core.Path.{sym, _∙_}
 use native.Mathlib.Omega.{arith}
 use borrow.Author.Needs.{needs}
 use Rattle.records.specs.Records.{mostNodes}
@@ -19,11 +20,15 @@ loop-holds c = record { low = omega arith; few = omega arith; sum = omega arith 
 origin-at-requires : tie.Need-origin-at-requires Inv-loop μ-loop
 origin-at-requires c κs = search needs
 
+root-word-requires : tie.Need-root-word-requires Inv-loop μ-loop
+root-word-requires c κs = search needs
+
 returns : tie.Need-returns Inv-loop μ-loop
 returns c =
-    let l = c .before .before .before in
+    let o = c .before .before .origin-at in
+    let l = c .before .before .before .before in
     let a = l .before .before .args in
-    (counted-root (a .graph .now) (a .actions) (a .node) (l .loop .k) (l .loop .d) (l .loop .inv) (c .before .origin-at .result) (c .before .origin-at .ensures) (omega arith) (c .if1 .taken), omega arith)
+    (counted-root (a .graph .now) (a .actions) (a .node) (l .loop .k) (l .loop .d) (l .loop .inv) (o .result) (o .ensures) (omega arith) (c .if1 .taken ∙ c .before .root-word .ensures), omega arith)
 
 parent-requires : tie.Need-parent-requires Inv-loop μ-loop
 parent-requires c κs = search needs
@@ -36,10 +41,11 @@ loop-less c = search needs
 
 loop-again : tie.Need-loop-again Inv-loop μ-loop
 loop-again c =
-    let o = c .before .before .origin-at in
-    let l = c .before .before .before .before in
+    let t = c .before .before in
+    let o = t .before .origin-at in
+    let l = t .before .before .before in
     let a = l .before .before .args in
-    counted-on (a .graph .now) (a .actions) (a .node) (l .loop .k) (l .loop .d) (l .loop .inv) (o .result) (o .ensures) (omega arith) (c .before .if1 .left) (c .parent .result) (c .parent .ensures .0) (c .parent .ensures .1)
+    counted-on (a .graph .now) (a .actions) (a .node) (l .loop .k) (l .loop .d) (l .loop .inv) (o .result) (o .ensures) (omega arith) (λ e. c .before .if1 .left (e ∙ sym (t .root-word .ensures))) (c .parent .result) (c .parent .ensures .0) (c .parent .ensures .1)
 
 returns-2 : tie.Need-returns-2 Inv-loop μ-loop
 returns-2 c =
@@ -55,6 +61,7 @@ count-steps-spec =
     μ-loop
     loop-holds
     origin-at-requires
+    root-word-requires
     returns
     parent-requires
     add-d

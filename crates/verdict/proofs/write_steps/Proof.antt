@@ -24,8 +24,8 @@ origin-at-requires c κs = search needs
 sub-i : tie.Need-sub-i Inv-loop μ-loop
 sub-i c = search needs
 
-add-path : tie.Need-add-path Inv-loop μ-loop
-add-path c = search needs
+word-requires : tie.Need-word-requires Inv-loop μ-loop
+word-requires c κs = search needs
 
 mul-path : tie.Need-mul-path Inv-loop μ-loop
 mul-path c = search needs
@@ -41,10 +41,11 @@ loop-less c = search needs
 
 loop-again : tie.Need-loop-again Inv-loop μ-loop
 loop-again c =
-    let o = c .before .origin-at in
-    let l = c .before .before .before in
+    let o = c .before .before .origin-at in
+    let l = c .before .before .before .before in
     let a = l .before .before .before .args in
-    traced-on (a .graph .now) (a .actions) (a .node) (a .d) (a .path .now) (l .loop .path) (l .loop .k) (l .loop .i) (l .loop .inv) (omega arith) (omega arith) (omega arith) (o .result) (o .ensures) (c .parent .result) (c .parent .ensures .0) (c .parent .ensures .1)
+    rw (c .before .word .ensures)
+    (traced-on (a .graph .now) (a .actions) (a .node) (a .d) (a .path .now) (l .loop .path) (l .loop .k) (l .loop .i) (l .loop .inv) (omega arith) (omega arith) (omega arith) (o .result) (o .ensures) (c .parent .result) (c .parent .ensures .0) (c .parent .ensures .1))
 
 same-length : tie.Need-same-length Inv-loop μ-loop
 same-length c = search needs
@@ -64,7 +65,7 @@ write-steps-spec =
     loop-holds
     origin-at-requires
     sub-i
-    add-path
+    word-requires
     mul-path
     slice-write-path
     parent-requires

@@ -4,9 +4,7 @@ use Prim.Native.Nat.{ℕ}
 use lib.Dec.{eqb}
 use borrow.Author.Tests.{eq-eqb, ne-eqb, not-true, not-false}
 use borrow.Author.Needs.{needs}
-use Rattle.words.specs.Words.{kindOf, payload}
-use Rattle.records.specs.Records.{EDGE}
-use Rattle.view.specs.Views.{noNode}
+use Rattle.words.specs.Words.{kindOf, payload, EDGE, noNode}
 use Rattle.view.proofs.edge_of.Statement.{statement}
 use Rattle.view.proofs.edge_of.Tie as tie
 
@@ -25,6 +23,9 @@ returns c =
 count-requires : tie.Need-count-requires
 count-requires c κs = search needs
 
+cast-if2 : tie.Need-cast-if2
+cast-if2 c = search needs
+
 returns-2 : tie.Need-returns-2
 returns-2 c =
     let s = c .before .before .before in
@@ -42,4 +43,4 @@ returns-3 c =
     rw (is, some, c .before .count .ensures)
 
 pub edge-of-spec : {M : Type 1} → statement M
-edge-of-spec = tie.close (tie.spec of-requires is-requires returns count-requires returns-2 returns-3)
+edge-of-spec = tie.close (tie.spec of-requires is-requires returns count-requires cast-if2 returns-2 returns-3)

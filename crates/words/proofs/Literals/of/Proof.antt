@@ -10,7 +10,7 @@ new-requires c κs = search needs
 
 returns : tie.Need-returns
 returns c =
-    let w = c .before .args .word in
+    let w = c .before .args .w in
     let same : w / 2 ^ 14 % 2 ^ 14 % 2 ^ 14 * 2 ^ 14 + w % 2 ^ 14 % 2 ^ 14 ≡ w % 2 ^ 28 = omega arith in
     c .new .ensures ∙ λ i. record { 0 = same i }
 
