@@ -12,8 +12,8 @@ use Rattle.integers.proofs.Int.{var, num, _⊕_, _⊗_, ⊖, below, law, le-in}
 use Rattle.integers.proofs.Tests.{ltZ-true, leZ-true, leZ-false, le-leZ, and-true}
 use Rattle.rows.specs.declared.Row.{Row}
 use Rattle.rows.specs.declared.Range.{Range}
-use Rattle.rows.specs.Rows.{rowValue, Holds, negated, largestValue, InRanges, in-none, in-one}
-use Rattle.rows.proofs.Laws.{negation}
+use Rattle.rows.specs.Rows.{rowValue, negated, largestValue, holds}
+use Rattle.rows.proofs.Laws.{negation, Holds, InRanges, in-none, in-one}
 use Rattle.grammar.specs.Programs.{Assignment, Program}
 use Rattle.grammar.specs.WellFormed.{Each, RowOk, Rising, ActionOk, WellFormed}
 use Rattle.reader.specs.Results.{zeroRow}
@@ -21,7 +21,7 @@ use Rattle.actions.specs.Results.{keepRows, assigned}
 use Rattle.programs.proofs.Places.{noneAction}
 use Rattle.words.specs.declared.Literals.{Literals}
 use Rattle.words.specs.LiteralSets.{Literal, B, NotB, literalsIn}
-use Rattle.runs.specs.Runs.{allHold, holds, within, lowestOff, Inside, newState, actionOf, predicate, literalRow, literalRows, meets}
+use Rattle.runs.specs.Runs.{allHold, onRange, lowestOff, Inside, newState, actionOf, predicate, literalRow, literalRows, meets}
 use Rattle.runs.specs.Values.{padded}
 use Rattle.runs.proofs.Trying.{first-on, value-padded}
 use Rattle.runs.proofs.Sizes.{every-each, unit-value}
@@ -40,7 +40,7 @@ in-ranges [] [] l h = in-none
 in-ranges [] (x ∷ s) l h = absurd (omega arith)
 in-ranges (g ∷ gs) [] l h = absurd (omega arith)
 in-ranges (g ∷ gs) (x ∷ s) l h =
-    let (on, rest) = first-on (within g x) h in
+    let (on, rest) = first-on (onRange g x) h in
     let (low, high) = and-true (leZ (g .low) x) (leZ x (g .high)) on in
     in-one (leZ-true (g .low) x low) (leZ-true x (g .high) high) (in-ranges gs s (omega arith) rest)
 

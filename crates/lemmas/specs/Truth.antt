@@ -11,7 +11,8 @@ use lib.IntN.{ℤ, pos}
 use lib.Signed.{_≤ℤ_}
 use lib.ListN.{getD}
 use Rattle.grammar.specs.Programs.{Program}
-use Rattle.runs.specs.Runs.{holds, allHold, Inside, newState, actionOf, meets, predicate}
+use Rattle.rows.specs.Rows.{holds}
+use Rattle.runs.specs.Runs.{allHold, Inside, newState, actionOf, meets, predicate}
 use Rattle.lemmas.specs.Lemmas.{Goal, CannotHappen, HoldsAfter, FailsAfter, NotBelow, NotAbove, Lemma, sourceRows, range}
 
 abbrev pub happens : Program → ℕ → List ℤ → Bool
