@@ -4,7 +4,7 @@
 -- keepRow    — the row that is worth the variable itself
 -- keepRows   — that row for each of the eight variables
 -- assigned   — each variable's row after assignments: the last one's, or the row that was there
--- marked     — which variables are set
+-- variablesSet, noneSet — which variables are set, on top of others; no variable is
 -- setsFrom   — assignments put on top of given rows and marks
 -- setsRead   — assignments put on top of the rows that keep every variable
 -- noAction   — no action, and why
@@ -41,28 +41,35 @@ unfoldable pub assigned : List Row → List Assignment → List Row
 assigned rs [] = rs
 assigned rs (s ∷ ss) = assigned (set rs (s .variable) (s .row)) ss
 
-unfoldable pub marked : List Bool → List Assignment → List Bool
-marked bs [] = bs
-marked bs (s ∷ ss) = marked (set bs (s .variable) true) ss
+unfoldable pub variablesSet : List Bool → List Assignment → List Bool
+variablesSet bs [] = bs
+variablesSet bs (s ∷ ss) = variablesSet (set bs (s .variable) true) ss
 
-abbrev pub noMarks : List Bool
-noMarks = replicate 8 false
+abbrev pub noneSet : List Bool
+noneSet = replicate 8 false
 
 abbrev pub noSets : Refusal → Sets
-noSets x = record { rows = keepRows; set = noMarks; next = Refused x }
+noSets x = record { rows = keepRows; set = noneSet; next = Refused x }
 
 abbrev pub setsFrom : List Row → List Bool → Read (List Assignment) → Sets
-setsFrom rs bs (got ss ws i) = record { rows = assigned rs ss; set = marked bs ss; next = At i }
+setsFrom rs bs (got ss ws i) = record { rows = assigned rs ss; set = variablesSet bs ss; next = At i }
 setsFrom rs bs (refused x) = noSets x
 
 abbrev pub setsRead : Read (List Assignment) → Sets
-setsRead m = setsFrom keepRows noMarks m
+setsRead m = setsFrom keepRows noneSet m
 
 abbrev pub noAction : Refusal → ActionRead
-noAction x = record { guards = 0; guard = zeroRows; rows = keepRows; set = noMarks; next = Refused x }
+noAction x = record { guards = 0; guard = zeroRows; rows = keepRows; set = noneSet; next = Refused x }
 
 abbrev pub actionRead : Read Action → ActionRead
-actionRead (got a ws i) = record { guards = length (a .guards); guard = sets zeroRows 0 (a .guards); rows = assigned keepRows (a .sets); set = marked noMarks (a .sets); next = At i }
+actionRead (got a ws i) =
+    record {
+      guards = length (a .guards);
+      guard = sets zeroRows 0 (a .guards);
+      rows = assigned keepRows (a .sets);
+      set = variablesSet noneSet (a .sets);
+      next = At i;
+    }
 actionRead (refused x) = noAction x
 
 abbrev pub withSets : ℕ → List Row → Sets → Next → ActionRead

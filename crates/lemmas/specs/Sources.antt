@@ -25,7 +25,7 @@ use Rattle.grammar.proofs.ProgramLaws.{Accepted}
 use Rattle.reader.specs.declared.Next.the-variants.{At}
 use Rattle.reader.specs.declared.Next.the-variants.{Refused as Stopped}
 use Rattle.reader.specs.Results.{zeroRows}
-use Rattle.actions.specs.Results.{marked, noMarks}
+use Rattle.actions.specs.Results.{variablesSet, noneSet}
 use Rattle.programs.specs.Calls.{read}
 use Rattle.programs.specs.Images.{imageOf, places}
 use Rattle.programs.specs.declared.Image.{Image}
@@ -52,7 +52,13 @@ pub record Held (ws : List ℕ) (image : Image) : Type 0 where
   pub same : image ≡ imageOf (theProgram ws)
 
 abbrev pub sourceOf : Program → ℕ → Source
-sourceOf p s = record { count = length (sourceRows p s); rows = sets zeroRows 0 (sourceRows p s); new = newRows p s; set = marked noMarks (actionOf p s .sets) }
+sourceOf p s =
+    record {
+      count = length (sourceRows p s);
+      rows = sets zeroRows 0 (sourceRows p s);
+      new = newRows p s;
+      set = variablesSet noneSet (actionOf p s .sets);
+    }
 
 abbrev pub shapeOf : Program → ℕ → Shape
 shapeOf p s = record { count = sourceOf p s .count; set = sourceOf p s .set }
