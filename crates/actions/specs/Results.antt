@@ -5,7 +5,8 @@
 -- keepRows   — that row for each of the eight variables
 -- assigned   — each variable's row after assignments: the last one's, or the row that was there
 -- variablesSet, noneSet — which variables are set, on top of others; no variable is
--- setsFrom   — assignments put on top of given rows and marks
+-- noSets     — no assignments, and why
+-- setsFrom   — assignments put on top of given rows and variables
 -- setsRead   — assignments put on top of the rows that keep every variable
 -- noAction   — no action, and why
 -- actionRead — an action's guard rows and each variable's row
