@@ -14,7 +14,8 @@ use Rattle.grammar.specs.Grammar.{action}
 use Rattle.grammar.specs.Encoding.{encodeAction}
 use Rattle.reader.specs.Results.{zeroRows}
 use Rattle.actions.specs.declared.ActionRead.{ActionRead}
-use Rattle.actions.specs.Results.{actionRead, keepRows, noneSet, assigned, variablesSet}
+use Rattle.actions.specs.NewRows.{keepRows, assigned}
+use Rattle.actions.specs.Results.{actionRead, noneSet, variablesSet}
 use Rattle.programs.specs.declared.Image.{Image}
 use Rattle.programs.specs.Images.{places, firstAction}
 use Rattle.programs.proofs.Places.{noneAction, action-k, stored-at, length-places}

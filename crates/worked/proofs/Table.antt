@@ -19,7 +19,7 @@ use Rattle.rows.specs.Rows.{dot, corner}
 use Rattle.grammar.specs.Reading.{got, due, one, times, many}
 use Rattle.grammar.specs.Programs.{Program}
 use Rattle.grammar.specs.Grammar.{program, ranges, rows, end, coefs, row, assignment, sets, action}
-use Rattle.actions.specs.Results.{assigned}
+use Rattle.actions.specs.NewRows.{assigned}
 use Rattle.programs.specs.Calls.{read, check}
 use Rattle.programs.specs.declared.Checked.the-variants.{Good, Refused}
 use Rattle.sums.specs.Sums.{plusTimes, combine}
