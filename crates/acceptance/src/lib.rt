@@ -1,6 +1,6 @@
 // The sum of a lemma's rows, each times the number in its MULT word.
 ghost use mathlib.Core.Path.{_≡_};
-ghost use mathlib.Core.List.{_++_, map};
+ghost use mathlib.Core.List.{map};
 ghost use Prim.Native.Nat.{ℕ, _+_, _<_, _≤_};
 ghost use lib.IntN.{pos};
 ghost use lib.ListN.{length, getD, take, drop};
@@ -9,7 +9,7 @@ ghost use Rattle.words.specs.LiteralSets.{has};
 ghost use Rattle.runs.specs.Values.{rowIf, premiseRows};
 ghost use Rattle.sums.specs.Sums.{constRow, combine};
 ghost use Rattle.sums.specs.Fits.{RowFits, After};
-ghost use Rattle.acceptance.specs.Adding.{multOf, addRow, addRows, Fine};
+ghost use Rattle.acceptance.specs.Adding.{multOf, addRow, addRows, lemmaRows, Fine};
 use rows::Row;
 
 // A sum of rows, and the index of the next MULT word.
@@ -102,10 +102,10 @@ pub fn lemma_sum(
     words: &[u32],
     at: usize,
 ) -> Row
-    requires { ⌜ (np ≤ 14) × (n ≤ 14) × (at + length (rowIf goal q ++ (premiseRows 0 (take np preds) set ++ take n rows)) ≤ length (now words)) ⌝ }
+    requires { ⌜ (np ≤ 14) × (n ≤ 14) × (at + length (lemmaRows goal q (take np preds) set (take n rows)) ≤ length (now words)) ⌝ }
     requires { ⌜ After q ⌝ }
     requires { ⌜ ((i : ℕ) → Read (getD preds i noRow)) × ((i : ℕ) → Read (getD rows i noRow)) ⌝ }
-    ensures { λ r. ⌜ (r ≡ combine (constRow (pos 0)) (map multOf (drop at (now (words .entry)))) (rowIf goal q ++ (premiseRows 0 (take np preds) set ++ take n rows))) × Small r ⌝ }
+    ensures { λ r. ⌜ (r ≡ combine (constRow (pos 0)) (map multOf (drop at (now (words .entry)))) (lemmaRows goal q (take np preds) set (take n rows))) × Small r ⌝ }
 {
     let coef = [0i64; 8];
     let row = Row { coef, constant: 0 };

@@ -19,7 +19,8 @@ use Rattle.reader.specs.declared.Next.the-variants.{At, Refused}
 use Rattle.reader.specs.Results.{nextOf}
 use Rattle.reader.proofs.RowsLoop.{answer-refused, answer-at, left-is, left-within}
 use Rattle.actions.specs.declared.SetRead.{SetRead}
-use Rattle.actions.specs.Results.{setRead, assigned, marked, setsFrom, setsRead, noSets, keepRows, noMarks}
+use Rattle.actions.specs.NewRows.{assigned, keepRows}
+use Rattle.actions.specs.Results.{setRead, variablesSet, setsFrom, setsRead, noSets, noneSet}
 
 -- ---- an assignment from its first word and its row
 module _ (vars v : ℕ) (ws : List ℕ) (i : ℕ) where
@@ -58,12 +59,12 @@ pub record SetsLoop (ws : List ℕ) (at n vars : ℕ) (rs : List Row) (bs : List
 
 sets-more : (rs : List Row) (bs : List Bool) (s : Assignment) (m : Read (List Assignment))
     → setsFrom rs bs (after m (λ ss. pure (s ∷ ss))) ≡ setsFrom (set rs (s .variable) (s .row)) (set bs (s .variable) true) m
-unfolding assigned marked
+unfolding assigned variablesSet
 sets-more rs bs s (got ss ws i) = refl
 sets-more rs bs s (refused x) = refl
 
 module _ (ws : List ℕ) (at n vars : ℕ) (room : vars ≤ 8) where
-  pub sets-begun : at ≤ length ws → SetsLoop ws at n vars keepRows noMarks 0 at 0
+  pub sets-begun : at ≤ length ws → SetsLoop ws at n vars keepRows noneSet 0 at 0
   sets-begun h = record { few = omega arith; long = refl; marks = refl; here = h; same = rw (sub-zero n) refl }
 
   module _ {rs : List Row} {bs : List Bool} {low i k : ℕ} (t : SetsLoop ws at n vars rs bs low i k) where
@@ -91,5 +92,5 @@ module _ (ws : List ℕ) (at n vars : ℕ) (room : vars ≤ 8) where
         )
 
     pub sets-ended : n ≤ k → record { rows = rs; set = bs; next = At i } ≡ setsRead (sets vars n 0 (drop at ws) at)
-    unfolding sets assigned marked
+    unfolding sets assigned variablesSet
     sets-ended h = let none : n - k ≡ 0 = omega arith in rw (← t .same, none) refl

@@ -1,11 +1,9 @@
 -- What the readers of assignments and actions give, by what the grammar says.
 --
 -- setRead    — an assignment and where reading goes on
--- keepRow    — the row that is worth the variable itself
--- keepRows   — that row for each of the eight variables
--- assigned   — each variable's row after assignments: the last one's, or the row that was there
--- marked     — which variables are set
--- setsFrom   — assignments put on top of given rows and marks
+-- variablesSet, noneSet — which variables are set, on top of others; no variable is
+-- noSets     — no assignments, and why
+-- setsFrom   — assignments put on top of given rows and variables
 -- setsRead   — assignments put on top of the rows that keep every variable
 -- noAction   — no action, and why
 -- actionRead — an action's guard rows and each variable's row
@@ -13,7 +11,6 @@
 use mathlib.Core.Bool.{Bool, true, false}
 use mathlib.Core.List.{List, [], _∷_}
 use Prim.Native.Nat.{ℕ}
-use lib.IntN.{pos}
 use lib.ListN.{length, set, replicate}
 use lib.Seq.{sets}
 use Rattle.words.specs.declared.Refusal.{Refusal}
@@ -23,6 +20,7 @@ use Rattle.grammar.specs.Programs.{Assignment, Action}
 use Rattle.reader.specs.declared.Next.{Next}
 use Rattle.reader.specs.declared.Next.the-variants.{At, Refused}
 use Rattle.reader.specs.Results.{zeroRow, zeroRows}
+use Rattle.actions.specs.NewRows.{keepRows, assigned}
 use Rattle.actions.specs.declared.SetRead.{SetRead}
 use Rattle.actions.specs.declared.Sets.{Sets}
 use Rattle.actions.specs.declared.ActionRead.{ActionRead}
@@ -31,38 +29,35 @@ abbrev pub setRead : Read Assignment → SetRead
 setRead (got s ws i) = record { variable = s .variable; row = s .row; next = At i }
 setRead (refused x) = record { variable = 0; row = zeroRow; next = Refused x }
 
-abbrev pub keepRow : ℕ → Row
-keepRow v = record { coef = set (replicate 8 (pos 0)) v (pos 1); constant = pos 0 }
+unfoldable pub variablesSet : List Bool → List Assignment → List Bool
+variablesSet bs [] = bs
+variablesSet bs (s ∷ ss) = variablesSet (set bs (s .variable) true) ss
 
-abbrev pub keepRows : List Row
-keepRows = keepRow 0 ∷ keepRow 1 ∷ keepRow 2 ∷ keepRow 3 ∷ keepRow 4 ∷ keepRow 5 ∷ keepRow 6 ∷ keepRow 7 ∷ []
-
-unfoldable pub assigned : List Row → List Assignment → List Row
-assigned rs [] = rs
-assigned rs (s ∷ ss) = assigned (set rs (s .variable) (s .row)) ss
-
-unfoldable pub marked : List Bool → List Assignment → List Bool
-marked bs [] = bs
-marked bs (s ∷ ss) = marked (set bs (s .variable) true) ss
-
-abbrev pub noMarks : List Bool
-noMarks = replicate 8 false
+abbrev pub noneSet : List Bool
+noneSet = replicate 8 false
 
 abbrev pub noSets : Refusal → Sets
-noSets x = record { rows = keepRows; set = noMarks; next = Refused x }
+noSets x = record { rows = keepRows; set = noneSet; next = Refused x }
 
 abbrev pub setsFrom : List Row → List Bool → Read (List Assignment) → Sets
-setsFrom rs bs (got ss ws i) = record { rows = assigned rs ss; set = marked bs ss; next = At i }
+setsFrom rs bs (got ss ws i) = record { rows = assigned rs ss; set = variablesSet bs ss; next = At i }
 setsFrom rs bs (refused x) = noSets x
 
 abbrev pub setsRead : Read (List Assignment) → Sets
-setsRead m = setsFrom keepRows noMarks m
+setsRead m = setsFrom keepRows noneSet m
 
 abbrev pub noAction : Refusal → ActionRead
-noAction x = record { guards = 0; guard = zeroRows; rows = keepRows; set = noMarks; next = Refused x }
+noAction x = record { guards = 0; guard = zeroRows; rows = keepRows; set = noneSet; next = Refused x }
 
 abbrev pub actionRead : Read Action → ActionRead
-actionRead (got a ws i) = record { guards = length (a .guards); guard = sets zeroRows 0 (a .guards); rows = assigned keepRows (a .sets); set = marked noMarks (a .sets); next = At i }
+actionRead (got a ws i) =
+    record {
+      guards = length (a .guards);
+      guard = sets zeroRows 0 (a .guards);
+      rows = assigned keepRows (a .sets);
+      set = variablesSet noneSet (a .sets);
+      next = At i;
+    }
 actionRead (refused x) = noAction x
 
 abbrev pub withSets : ℕ → List Row → Sets → Next → ActionRead

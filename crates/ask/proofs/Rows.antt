@@ -29,7 +29,7 @@ use Rattle.runs.specs.Runs.{actionOf, predicate}
 use Rattle.runs.proofs.Sizes.{every-set, zeros-small}
 use Rattle.sums.specs.Sums.{addScaled, combine, constRow, afterwards}
 use Rattle.acceptance.specs.Adding.{multOf}
-use Rattle.lemmas.specs.Lemmas.{Goal, CannotHappen, HoldsAfter, FailsAfter, NotBelow, NotAbove, goalNumber, range, newRows, negatedGoal}
+use Rattle.lemmas.specs.Lemmas.{Goal, CannotHappen, HoldsAfter, FailsAfter, NotBelow, NotAbove, goalNumber, rangeAt, newRows, negatedGoal}
 use Rattle.lemmas.specs.LemmaGrammar.{goalAllowed, setsVariable, encodeMultiplier}
 use Rattle.lemmas.proofs.LemmaLaws.{sets-known, action-rising}
 use Rattle.ask.specs.Weighing.{endRow, goalRow, refuted}
@@ -68,7 +68,7 @@ module _ (p : Program) (ok : WellFormed p) (s : ℕ) where
   predicate-at : (i : ℕ) → i < length (p .predicates) → getD (sets zeroRows 0 (p .predicates)) i noRow ≡ predicate p i
   predicate-at i h = stored-at 14 zeroRow (p .predicates) i noRow h (ok .predicates .few) ∙ same-default (p .predicates) i noRow (constRow (pos 0)) h
 
-  range-at : (v : ℕ) → v < length (p .ranges) → getD (sets zeroRanges 0 (p .ranges)) v zeroRange ≡ range p v
+  range-at : (v : ℕ) → v < length (p .ranges) → getD (sets zeroRanges 0 (p .ranges)) v zeroRange ≡ rangeAt p v
   range-at v h = stored-at 8 zeroRange (p .ranges) v zeroRange h (ok .ranges .few)
 
   set-known : (v : ℕ) → setsVariable (actionOf p s .sets) v ≡ true → v < length (p .ranges)

@@ -7,36 +7,38 @@ use Prim.Native.Nat.{ℕ, zero, suc, _+_, _-_, _*_, _^_, _≤_, _<_}
 use native.Mathlib.Omega.{arith}
 use lib.Dec.{eqb}
 use lib.IntN.{ℤ, pos, negsuc}
-use lib.Signed.{_≤ℤ_, leZ, leZ-yes}
+use lib.Signed.{_≤ℤ_, leZ-yes}
 use Rattle.integers.proofs.Laws.{le-trans}
 use lib.ListN.{length, length-append, replicate, take, take-append-drop, length-replicate}
 use lib.Seq.{drop-at, length-take-le}
 use borrow.Author.Tests.{eqb-true, eq-eqb, ne-eqb}
-use Rattle.integers.proofs.Tests.{leZ-true, le-leZ, and-true, not-true}
+use Rattle.integers.proofs.Tests.{and-true, not-true}
 use Rattle.words.specs.Words.{bits, kindOf, payload, word, signed, unsigned, ROW, TERM}
 use Rattle.words.proofs.Laws.{kind-word, payload-word, word-split, signed-unsigned, unsigned-signed, unsigned-lt}
 use Rattle.rows.specs.declared.Row.{Row}
 use Rattle.grammar.specs.Reading.{got, one, always, begins}
+use Rattle.rows.specs.Rows.{between}
+use Rattle.rows.proofs.Laws.{Between, between-out}
 use Rattle.grammar.specs.Grammar.{term, coefficient, coefficientAllowed, beginsTerm, coef, coefs, row, rowOf, constantOf, constantAllowed}
 use Rattle.grammar.specs.Encoding.{encodeCoef, encodeCoefs, encodeRow}
-use Rattle.grammar.specs.WellFormed.{Between, Each, RowOk}
+use Rattle.grammar.specs.WellFormed.{Each, RowOk}
 use Rattle.grammar.proofs.ReadingLaws.{Codec, Taken, retaken, one-taken, bound, joined, one-out, one-in, optional-got}
 
 -- the bounds of a coefficient
 abbrev pub Coef : ℤ → Type 0
-Coef = Between (negsuc 999) (pos 1000)
+Coef c = between (negsuc 999) (pos 1000) c ≡ true
 
 widen : {a b c d z : ℤ} → a ≤ℤ b → c ≤ℤ d → Between b c z → Between a d z
 widen h k p = (le-trans h (p .0), le-trans (p .1) k)
 
-coef-wide : {c : ℤ} → Coef c → Between (negsuc 32767) (pos 32767) c
-coef-wide p = widen (leZ-yes tt) (leZ-yes tt) p
+coef-wide : (c : ℤ) → Coef c → Between (negsuc 32767) (pos 32767) c
+coef-wide c p = widen (leZ-yes tt) (leZ-yes tt) (between-out (negsuc 999) (pos 1000) c p)
 
 coef-back : (c : ℤ) → Coef c → signed 16 (unsigned 16 c) ≡ c
-coef-back c p = let q = coef-wide p in signed-unsigned 16 refl c (q .0) (q .1)
+coef-back c p = let q = coef-wide c p in signed-unsigned 16 refl c (q .0) (q .1)
 
 coef-lt : (c : ℤ) → Coef c → unsigned 16 c < 2 ^ 16
-coef-lt c p = let q = coef-wide p in unsigned-lt 16 refl c (q .0) (q .1)
+coef-lt c p = let q = coef-wide c p in unsigned-lt 16 refl c (q .0) (q .1)
 
 -- ---- one coefficient
 unnamed : ℕ → Bool
@@ -49,7 +51,7 @@ coef-word v w a b c d =
     rw (x, d) (ap (λ (u : ℕ). u ∷ []) e)
 
 zero-coef : Coef (pos 0)
-zero-coef = (leZ-yes tt, leZ-yes tt)
+zero-coef = refl
 
 coef-out : (v : ℕ) (ws : List ℕ) (i : ℕ) (c : ℤ) (vs : List ℕ) (j : ℕ) → coef v ws i ≡ got c vs j → Taken (encodeCoef v) Coef ws i c vs j
 coef-out v ws i c vs j h =
@@ -59,9 +61,8 @@ coef-out v ws i c vs j h =
     let t = subst (λ (l : List ℕ). beginsTerm v l ≡ true) (o .words) (p .0) in
     let (q, r) = and-true (eqb (kindOf w) TERM) (eqb (bits 27 24 w) v) t in
     let (some, both) = and-true _ _ (o .allowed-is) in
-    let (low, high) = and-true _ _ both in
     let same = coef-word v w (o .kind-is) (eqb-true (bits 27 24 w) v r) (eqb-true (bits 23 16 w) 0 (o .named-is)) (not-true _ some) in
-    retaken (one-taken (encodeCoef v) (coefficient w) o same (leZ-true _ _ low, leZ-true _ _ high)) g))
+    retaken (one-taken (encodeCoef v) (coefficient w) o same both) g))
     (λ p. retaken {a = pos 0} (record { words = refl; place = omega arith; good = zero-coef }) (p .1)) (optional-got (beginsTerm v ws) h)
 
 -- ---- the coefficients from v on
@@ -105,9 +106,8 @@ module _ (v : ℕ) (c : ℤ) (ok : Coef c) (low : v < 16) where
   term-allowed : eqb (unsigned 16 c) 0 ≡ false → coefficientAllowed term-word ≡ true
   term-allowed h =
       let e : eqb (bits 15 0 term-word) 0 ≡ false = ap (λ (n : ℕ). eqb n 0) term-bits ∙ h in
-      let l : leZ (negsuc 999) (coefficient term-word) ≡ true = ap (leZ (negsuc 999)) term-coefficient ∙ le-leZ (negsuc 999) c (ok .0) in
-      let r : leZ (coefficient term-word) (pos 1000) ≡ true = ap (λ (z : ℤ). leZ z (pos 1000)) term-coefficient ∙ le-leZ c (pos 1000) (ok .1) in
-      rw (e, l, r) refl
+      let b : between (negsuc 999) (pos 1000) (coefficient term-word) ≡ true = ap (between (negsuc 999) (pos 1000)) term-coefficient ∙ ok in
+      rw e b
 
   coef-into : (vs : List ℕ) (i : ℕ) (b : Bool) → eqb (unsigned 16 c) 0 ≡ b → beginsTerm v vs ≡ false → (j : ℕ) × (coef v (encodeCoef v c ++ vs) i ≡ got c vs j)
   coef-into vs i true e h =
@@ -178,11 +178,11 @@ each-take (suc n) [] p = tt
 each-take (suc n) (x ∷ xs) p = (p .0, each-take n xs (p .1))
 
 -- ---- a row
-constant-wide : {z : ℤ} → Between (negsuc 999999) (pos 1000000) z → Between (negsuc 134217727) (pos 134217727) z
-constant-wide p = widen (leZ-yes tt) (leZ-yes tt) p
+constant-wide : (z : ℤ) → between (negsuc 999999) (pos 1000000) z ≡ true → Between (negsuc 134217727) (pos 134217727) z
+constant-wide z p = widen (leZ-yes tt) (leZ-yes tt) (between-out (negsuc 999999) (pos 1000000) z p)
 
-constant-lt : {z : ℤ} → Between (negsuc 999999) (pos 1000000) z → unsigned 28 z < 2 ^ 28
-constant-lt {z} p = let q = constant-wide p in unsigned-lt 28 refl z (q .0) (q .1)
+constant-lt : (z : ℤ) → between (negsuc 999999) (pos 1000000) z ≡ true → unsigned 28 z < 2 ^ 28
+constant-lt z p = let q = constant-wide z p in unsigned-lt 28 refl z (q .0) (q .1)
 
 row-same : (a b : Row) → a .coef ≡ b .coef → a .constant ≡ b .constant → a ≡ b
 row-same a b p q = λ i. record { coef = p i; constant = q i }
@@ -194,7 +194,6 @@ module _ (vars : ℕ) (few : vars ≤ 8) where
       bound (one ROW always always constantAllowed ws i) _ h (λ w us k e₁ h₁. bound (coefs vars 0 us k) _ h₁ (λ cs us′ k′ e₂ h₂.
       let o = one-out ROW always always constantAllowed ws i w us k e₁ in
       let t = coefs-out vars 0 us k cs us′ k′ e₂ in
-      let (low, high) = and-true (leZ (negsuc 999999) (constantOf w)) (leZ (constantOf w) (pos 1000000)) (o .allowed-is) in
       let small : payload w < 2 ^ 28 = omega arith in
       let first : w ≡ word ROW (unsigned 28 (constantOf w)) = rw (unsigned-signed 28 refl (payload w) small) (word-split w (o .kind-is)) in
       let z = padded-same 0 (8 - vars) cs in
@@ -206,7 +205,7 @@ module _ (vars : ℕ) (few : vars ≤ 8) where
           eight = simp (length-append, length-replicate) (omega arith);
           small = each-append cs (replicate (8 - vars) (pos 0)) (t .good .1) (zeros-small (8 - vars));
           absent = drop-at cs (replicate (8 - vars) (pos 0)) vars l;
-          constant = (leZ-true _ _ low, leZ-true _ _ high);
+          constant = o .allowed-is;
         };
       }) h₂))
 
@@ -216,19 +215,18 @@ module _ (vars : ℕ) (few : vars ≤ 8) where
       let cs = take vars (r .coef) in
       let l : length cs ≡ vars = length-take-le vars (r .coef) (rw (p .eight) few) in
       let whole : cs ++ replicate (8 - vars) (pos 0) ≡ r .coef = ap (λ (t : List ℤ). cs ++ t) (sym (p .absent)) ∙ take-append-drop vars (r .coef) in
-      let c = constant-wide (p .constant) in
-      let lt = constant-lt (p .constant) in
+      let c = constant-wide (r .constant) (p .constant) in
+      let lt = constant-lt (r .constant) (p .constant) in
       let w = word ROW (unsigned 28 (r .constant)) in
       let k : constantOf w ≡ r .constant = ap (signed 28) (payload-word ROW (unsigned 28 (r .constant)) lt) ∙ signed-unsigned 28 refl (r .constant) (c .0) (c .1) in
-      let a₁ : leZ (negsuc 999999) (constantOf w) ≡ true = ap (leZ (negsuc 999999)) k ∙ le-leZ (negsuc 999999) (r .constant) (p .constant .0) in
-      let a₂ : leZ (constantOf w) (pos 1000000) ≡ true = ap (λ (z : ℤ). leZ z (pos 1000000)) k ∙ le-leZ (r .constant) (pos 1000000) (p .constant .1) in
+      let b : constantAllowed w ≡ true = ap (between (negsuc 999999) (pos 1000000)) k ∙ p .constant in
       let same : encodeCoefs 0 (r .coef) ≡ encodeCoefs 0 cs = ap (encodeCoefs 0) (sym whole) ∙ padded-same 0 (8 - vars) cs in
       let (j, e) = coefs-into 0 cs vs (suc i) (omega arith) (each-take vars (r .coef) (p .small)) h in
       let e′ : coefs vars 0 (encodeCoefs 0 (r .coef) ++ vs) (suc i) ≡ got cs vs j = rw same (subst (λ (m : ℕ). coefs m 0 (encodeCoefs 0 cs ++ vs) (suc i) ≡ got cs vs j) l e) in (
         j,
-        rw (one-in ROW always always constantAllowed w (encodeCoefs 0 (r .coef) ++ vs) i (kind-word ROW (unsigned 28 (r .constant)) lt) refl refl (rw (a₁, a₂) refl), e′)
+        rw (one-in ROW always always constantAllowed w (encodeCoefs 0 (r .coef) ++ vs) i (kind-word ROW (unsigned 28 (r .constant)) lt) refl refl b, e′)
             (ap (λ (x : Row). got x vs j) (row-same (rowOf vars (constantOf w) cs) r whole k)),
       )
 
   pub row-codec : Codec (row vars) encodeRow (RowOk vars)
-  row-codec = record { out = row-out; into = row-into; head = λ r vs p h. rw (kind-word ROW (unsigned 28 (r .constant)) (constant-lt (p .constant))) refl }
+  row-codec = record { out = row-out; into = row-into; head = λ r vs p h. rw (kind-word ROW (unsigned 28 (r .constant)) (constant-lt (r .constant) (p .constant))) refl }

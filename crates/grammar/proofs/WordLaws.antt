@@ -2,10 +2,11 @@
 use mathlib.Core.Path.{_≡_, refl, sym, ap, _∙_, subst}
 use mathlib.Core.Bool.{Bool, true, false, _&&_}
 use mathlib.Core.List.{List, [], _∷_, _++_}
-use Prim.Native.Nat.{ℕ, suc, _+_, _*_, _^_, _≤_}
+use Prim.Native.Nat.{ℕ, suc, _+_, _*_, _^_}
 use native.Mathlib.Omega.{arith}
 use lib.Dec.{eqb, ltb}
 use lib.Bits.{bitAnd}
+use lib.IntN.{pos, negsuc}
 use lib.Signed.{leZ}
 use borrow.Author.Tests.{eqb-true, eq-eqb, ltb-true, lt-ltb}
 use Rattle.integers.proofs.Tests.{leZ-true, le-leZ, and-true}
@@ -13,6 +14,7 @@ use Rattle.words.specs.Words.{bits, kindOf, payload, word, signed, unsigned, li
 use Rattle.words.specs.declared.Literals.{Literals}
 use Rattle.words.proofs.Laws.{kind-word, payload-word, word-split, signed-unsigned, unsigned-signed, unsigned-lt, signed-between}
 use Rattle.rows.specs.declared.Range.{Range}
+use Rattle.rows.proofs.Laws.{Between, between-out, between-in}
 use Rattle.grammar.specs.Reading.{got, one, always, begins}
 use Rattle.grammar.specs.Grammar.{rangeOf, range, combination, literalsAllowed}
 use Rattle.grammar.specs.Encoding.{encodeRange, encodeLiterals}
@@ -37,23 +39,29 @@ module _ (r : Range) (ok : RangeOk r) where
   abbrev high-bits : ℕ
   high-bits = unsigned 14 (r .high)
 
+  low-in : Between (negsuc 8191) (pos 8191) (r .low)
+  low-in = between-out (negsuc 8191) (pos 8191) (r .low) (ok .low)
+
+  high-in : Between (negsuc 8191) (pos 8191) (r .high)
+  high-in = between-out (negsuc 8191) (pos 8191) (r .high) (ok .high)
+
   abbrev range-bits : ℕ
   range-bits = word VAR (low-bits * 2 ^ 14 + high-bits)
 
   range-kind : kindOf range-bits ≡ VAR
   range-kind =
-      let l = unsigned-lt 14 refl (r .low) (ok .low .0) (ok .low .1) in
-      let h = unsigned-lt 14 refl (r .high) (ok .high .0) (ok .high .1) in
+      let l = unsigned-lt 14 refl (r .low) (low-in .0) (low-in .1) in
+      let h = unsigned-lt 14 refl (r .high) (high-in .0) (high-in .1) in
       omega arith
 
   range-back : rangeOf range-bits ≡ r
   range-back =
-      let l = unsigned-lt 14 refl (r .low) (ok .low .0) (ok .low .1) in
-      let h = unsigned-lt 14 refl (r .high) (ok .high .0) (ok .high .1) in
+      let l = unsigned-lt 14 refl (r .low) (low-in .0) (low-in .1) in
+      let h = unsigned-lt 14 refl (r .high) (high-in .0) (high-in .1) in
       let p : bits 27 14 range-bits ≡ low-bits = omega arith in
       let q : bits 13 0 range-bits ≡ high-bits = omega arith in
-      range-same (rangeOf range-bits) r (ap (signed 14) p ∙ signed-unsigned 14 refl (r .low) (ok .low .0) (ok .low .1))
-      (ap (signed 14) q ∙ signed-unsigned 14 refl (r .high) (ok .high .0) (ok .high .1))
+      range-same (rangeOf range-bits) r (ap (signed 14) p ∙ signed-unsigned 14 refl (r .low) (low-in .0) (low-in .1))
+      (ap (signed 14) q ∙ signed-unsigned 14 refl (r .high) (high-in .0) (high-in .1))
 
 abbrev pub ordered : ℕ → Bool
 ordered w = leZ (rangeOf w .low) (rangeOf w .high)
@@ -64,8 +72,8 @@ range-codec =
       out = λ ws i a vs j e. bound (one VAR always (λ w. true) ordered ws i) _ e (λ w us k e₁ h.
           let o = one-out VAR always (λ w. true) ordered ws i w us k e₁ in
           retaken (one-taken encodeRange (rangeOf w) o (range-word w (o .kind-is)) (record {
-            low = signed-between 14 refl (bits 27 14 w) (omega arith);
-            high = signed-between 14 refl (bits 13 0 w) (omega arith);
+            low = between-in (negsuc 8191) (pos 8191) (rangeOf w .low) (signed-between 14 refl (bits 27 14 w) (omega arith));
+            high = between-in (negsuc 8191) (pos 8191) (rangeOf w .high) (signed-between 14 refl (bits 13 0 w) (omega arith));
             order = leZ-true _ _ (o .allowed-is);
           })) h);
       into = λ a vs i p h. (

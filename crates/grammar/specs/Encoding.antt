@@ -1,7 +1,7 @@
 -- The words of a program. Reading them gives the program back, and an accepted list is the words of what was read (proofs/ProgramLaws).
 --
 -- concat          — the words of each, one after the other
--- encodeRange .. encodeLiterals — the words of each part
+-- encodeRange, encodeCoef, encodeCoefs, encodeRow, encodeRows, encodeSet, encodeAction, encodeLiterals — the words of each part
 -- encode          — the words of a program
 use mathlib.Core.List.{List, [], _∷_, _++_}
 use mathlib.Core.Bool.{cond}

@@ -1,7 +1,6 @@
 -- The grammar of a program, with the refusal that is due at each word: 2 before 3 before 4, and the first bad word decides.
 --
 -- rangeOf, range                 — a variable's range, VAR
--- between                        — a number from one to another
 -- coefficient, coefficientAllowed, term, beginsTerm — TERM
 -- coef, coefs                    — a row's coefficients, by rising variable
 -- constantOf, constantAllowed    — ROW
@@ -28,6 +27,7 @@ use Rattle.words.specs.declared.Refusal.the-variants.{Word}
 use Rattle.words.specs.declared.Literals.{Literals}
 use Rattle.rows.specs.declared.Row.{Row}
 use Rattle.rows.specs.declared.Range.{Range}
+use Rattle.rows.specs.Rows.{between}
 use Rattle.grammar.specs.Reading.{Reader, got, refused, pure, _>>=_, one, always, begins, optional, times, many}
 use Rattle.grammar.specs.Programs.{Assignment, Action, Program}
 
@@ -39,9 +39,6 @@ abbrev pub range : Bool → Reader Range
 range room = do
   w ← one VAR always (λ w. room) (λ w. leZ (rangeOf w .low) (rangeOf w .high))
   pure (rangeOf w)
-
-abbrev pub between : ℤ → ℤ → ℤ → Bool
-between low high z = leZ low z && leZ z high
 
 -- TERM: variable 27..24, coefficient 15..0, from -1,000 to 1,000 and not 0
 abbrev pub coefficient : ℕ → ℤ

@@ -1,16 +1,16 @@
 -- Well-formed programs: those that have words. Every accepted program is one (proofs/ProgramLaws).
 --
--- Between    — a number from one to another
 -- Each       — every element of a list is good
 -- Few        — at most n, each good
 -- RangeOk, RowOk, SetOk, ActionOk, LiteralsOk — each part within the limits
 -- Rising     — assignments to rising variables
 -- WellFormed — the whole
 use mathlib.Core.Path.{_≡_}
+use mathlib.Core.Bool.{true}
 use mathlib.Core.List.{List, [], _∷_}
 use Prim.Native.Nat.{ℕ, suc, _-_, _^_, _≤_, _<_}
 use lib.Bits.{bitAnd}
-use lib.IntN.{ℤ, pos, negsuc}
+use lib.IntN.{pos, negsuc}
 use lib.Signed.{_≤ℤ_}
 use lib.ListN.{length, drop, replicate}
 use Rattle.words.specs.Words.{bits}
@@ -19,10 +19,8 @@ use Rattle.words.specs.Limits.{leastConstant, mostConstant, leastCoefficient, m
 use Rattle.words.specs.declared.Literals.{Literals}
 use Rattle.rows.specs.declared.Row.{Row}
 use Rattle.rows.specs.declared.Range.{Range}
+use Rattle.rows.specs.Rows.{between}
 use Rattle.grammar.specs.Programs.{Assignment, Action, Program}
-
-abbrev pub Between : ℤ → ℤ → ℤ → Type 0
-Between lo hi z = (lo ≤ℤ z) × (z ≤ℤ hi)
 
 module _ {A : Type 0} where
   abbrev pub Each : (A → Type 0) → List A → Type 0
@@ -36,15 +34,15 @@ module _ {A : Type 0} where
     pub each : Each P xs
 
 pub record RangeOk (r : Range) : Type 0 where
-  pub low : Between (negsuc 8191) (pos 8191) (r .low)
-  pub high : Between (negsuc 8191) (pos 8191) (r .high)
+  pub low : between (negsuc 8191) (pos 8191) (r .low) ≡ true
+  pub high : between (negsuc 8191) (pos 8191) (r .high) ≡ true
   pub order : r .low ≤ℤ r .high
 
 pub record RowOk (vars : ℕ) (r : Row) : Type 0 where
   pub eight : length (r .coef) ≡ mostVariables
-  pub small : Each (Between leastCoefficient mostCoefficient) (r .coef)
+  pub small : Each (λ c. between leastCoefficient mostCoefficient c ≡ true) (r .coef)
   pub absent : drop vars (r .coef) ≡ replicate (mostVariables - vars) (pos 0)
-  pub constant : Between leastConstant mostConstant (r .constant)
+  pub constant : between leastConstant mostConstant (r .constant) ≡ true
 
 -- an assignment to a variable from v on
 pub record SetOk (vars v : ℕ) (s : Assignment) : Type 0 where

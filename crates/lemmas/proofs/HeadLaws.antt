@@ -16,7 +16,7 @@ use Rattle.rows.specs.declared.Row.{Row}
 use Rattle.rows.specs.Rows.{negated}
 use Rattle.grammar.specs.Programs.{Assignment, Action, Program}
 use Rattle.grammar.specs.WellFormed.{Each, Few, RowOk, Rising, ActionOk, WellFormed}
-use Rattle.actions.specs.Results.{marked, noMarks}
+use Rattle.actions.specs.Results.{variablesSet, noneSet}
 use Rattle.programs.specs.declared.Image.{Image}
 use Rattle.programs.proofs.Places.{noneAction}
 use Rattle.words.specs.LiteralSets.{has}
@@ -59,8 +59,8 @@ module _ (preds : ℕ) (set : List Bool) (i : ℕ) where
   goal-none (suc (suc (suc (suc (suc g))))) n = refl
 
 -- ---- the marks of an action are its assignments
-marks-is : (ss : List Assignment) (bs : List Bool) (vars v : ℕ) → Rising vars v ss → vars ≤ length bs → (i : ℕ) → getD (marked bs ss) i false ≡ (getD bs i false || setsVariable ss i)
-unfolding marked setsVariable
+marks-is : (ss : List Assignment) (bs : List Bool) (vars v : ℕ) → Rising vars v ss → vars ≤ length bs → (i : ℕ) → getD (variablesSet bs ss) i false ≡ (getD bs i false || setsVariable ss i)
+unfolding variablesSet setsVariable
 marks-is [] bs vars v r l i = sym (or-none (getD bs i false))
   where
     or-none : (b : Bool) → (b || false) ≡ b
@@ -84,11 +84,11 @@ copied (suc n) d zero = refl
 copied (suc n) d (suc i) = copied n d i
 
 module _ (p : Program) (ok : WellFormed p) (s : ℕ) where
-  pub marks-of : (i : ℕ) → getD (marked noMarks (actionOf p s .sets)) i false ≡ setsVariable (actionOf p s .sets) i
-  marks-of i = marks-is (actionOf p s .sets) noMarks (length (p .ranges)) 0 (action-rising (length (p .ranges)) (p .actions) s (ok .actions .each)) (ok .ranges .few) i
+  pub marks-of : (i : ℕ) → getD (variablesSet noneSet (actionOf p s .sets)) i false ≡ setsVariable (actionOf p s .sets) i
+  marks-of i = marks-is (actionOf p s .sets) noneSet (length (p .ranges)) 0 (action-rising (length (p .ranges)) (p .actions) s (ok .actions .each)) (ok .ranges .few) i
       ∙ rw (copied 8 false i) refl
 
-  pub goal-by : (g i : ℕ) → goalBy (length (p .predicates)) (marked noMarks (actionOf p s .sets)) g i ≡ (leb g 4 && goalAllowed p s (goalOf g) i)
+  pub goal-by : (g i : ℕ) → goalBy (length (p .predicates)) (variablesSet noneSet (actionOf p s .sets)) g i ≡ (leb g 4 && goalAllowed p s (goalOf g) i)
   goal-by zero i = refl
   goal-by (suc zero) i = refl
   goal-by (suc (suc zero)) i = refl

@@ -12,25 +12,25 @@ use Rattle.integers.proofs.Int.{var, num, _⊕_, _⊗_, ⊖, below, law, le-in}
 use Rattle.integers.proofs.Tests.{ltZ-true, leZ-true, leZ-false, le-leZ, and-true}
 use Rattle.rows.specs.declared.Row.{Row}
 use Rattle.rows.specs.declared.Range.{Range}
-use Rattle.rows.specs.Rows.{rowValue, Holds, negated, largestValue, InRanges, in-none, in-one}
-use Rattle.rows.proofs.Laws.{negation}
+use Rattle.rows.specs.Rows.{rowValue, negated, largestValue, holds}
+use Rattle.rows.proofs.Laws.{negation, Holds, InRanges, in-none, in-one}
 use Rattle.grammar.specs.Programs.{Assignment, Program}
 use Rattle.grammar.specs.WellFormed.{Each, RowOk, Rising, ActionOk, WellFormed}
 use Rattle.reader.specs.Results.{zeroRow}
-use Rattle.actions.specs.Results.{keepRows, assigned}
+use Rattle.actions.specs.NewRows.{keepRows, assigned}
 use Rattle.programs.proofs.Places.{noneAction}
 use Rattle.words.specs.declared.Literals.{Literals}
 use Rattle.words.specs.LiteralSets.{Literal, B, NotB, literalsIn}
-use Rattle.runs.specs.Runs.{allHold, holds, within, lowestOff, Inside, newState, actionOf, predicate, literalRow, literalRows, meets}
+use Rattle.runs.specs.Runs.{allHold, onRange, lowestOff, Inside, newState, actionOf, predicate, literalRow, literalRows, meets}
 use Rattle.runs.specs.Values.{padded}
 use Rattle.runs.proofs.Trying.{first-on, value-padded}
 use Rattle.runs.proofs.Sizes.{every-each, unit-value}
 use Rattle.runs.proofs.NewValues.{new-values}
 use Rattle.sums.specs.Sums.{combine, constRow, afterwards}
 use Rattle.sums.proofs.Laws.{Eights, Hold, after-value, after-long, sum-holds, never-holds}
-use Rattle.lemmas.specs.Lemmas.{Goal, CannotHappen, HoldsAfter, FailsAfter, NotBelow, NotAbove, Lemma, START, sourceRows, newRows, range, aboveLow, belowHigh, negatedGoal, accepted}
+use Rattle.lemmas.specs.Lemmas.{Goal, CannotHappen, HoldsAfter, FailsAfter, NotBelow, NotAbove, Lemma, START, sourceRows, newRows, rangeAt, aboveLow, belowHigh, negatedGoal, accepted}
 use Rattle.lemmas.specs.LemmaGrammar.{goalAllowed, setsVariable, LemmaOk}
-use Rattle.lemmas.specs.Truth.{happens, Claim, True}
+use Rattle.lemmas.specs.Truth.{happens, Says, True}
 use Rattle.lemmas.proofs.LemmaLaws.{sets-known}
 
 -- ---- a state on its ranges
@@ -40,7 +40,7 @@ in-ranges [] [] l h = in-none
 in-ranges [] (x ∷ s) l h = absurd (omega arith)
 in-ranges (g ∷ gs) [] l h = absurd (omega arith)
 in-ranges (g ∷ gs) (x ∷ s) l h =
-    let (on, rest) = first-on (within g x) h in
+    let (on, rest) = first-on (onRange g x) h in
     let (low, high) = and-true (leZ (g .low) x) (leZ x (g .high)) on in
     in-one (leZ-true (g .low) x low) (leZ-true x (g .high) high) (in-ranges gs s (omega arith) rest)
 
@@ -111,17 +111,17 @@ must-hold r s f = go (holds r s) refl
     go false e = absurd (f (negation r s .1 (clashℤ (leZ-false (pos 0) (rowValue r s) e))))
 
 -- ---- the rows of goals 3 and 4
-low-holds : (p : Program) (v : ℕ) (t : List ℤ) → v < 8 → Holds (aboveLow p v) t → range p v .low ≤ℤ getD t v (pos 0)
+low-holds : (p : Program) (v : ℕ) (t : List ℤ) → v < 8 → Holds (aboveLow p v) t → rangeAt p v .low ≤ℤ getD t v (pos 0)
 low-holds p v t l h =
     let x = getD t v (pos 0) in
-    let g = range p v .low in
+    let g = rangeAt p v .low in
     let k = rw (unit-value 8 v (pos 1) t l) at h in
     below (var g) (var x) (omega (arith, le-in k, law (num 0), law (num 1 ⊗ var x ⊕ ⊖ (var g))))
 
-high-holds : (p : Program) (v : ℕ) (t : List ℤ) → v < 8 → Holds (belowHigh p v) t → getD t v (pos 0) ≤ℤ range p v .high
+high-holds : (p : Program) (v : ℕ) (t : List ℤ) → v < 8 → Holds (belowHigh p v) t → getD t v (pos 0) ≤ℤ rangeAt p v .high
 high-holds p v t l h =
     let x = getD t v (pos 0) in
-    let g = range p v .high in
+    let g = rangeAt p v .high in
     let k = rw (unit-value 8 v (negsuc 0) t l) at h in
     below (var x) (var g) (omega (arith, le-in k, law (num 0), law (⊖ (num 1) ⊗ var x ⊕ var g)))
 
@@ -187,7 +187,7 @@ module _ (p : Program) (ok : WellFormed p) where
       holds-after : (g : Row) → Refuted (afterwards (newRows p source) (negated g) ∷ []) → Holds g after
       holds-after g e = must-hold g after (cannot-after (negated g) e)
 
-      claimed : (g : Goal) (i : ℕ) → goalAllowed p source g i ≡ true → Refuted (negatedGoal p source g i) → Claim p g i after
+      claimed : (g : Goal) (i : ℕ) → goalAllowed p source g i ≡ true → Refuted (negatedGoal p source g i) → Says p g i after
       claimed CannotHappen i a e = cannot [] tt e tt
       claimed HoldsAfter i a e = le-leZ (pos 0) (rowValue (predicate p i) after) (holds-after (predicate p i) e)
       claimed FailsAfter i a e = fails (predicate p i) after (cannot-after (predicate p i) e)

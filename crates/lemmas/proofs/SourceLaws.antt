@@ -14,7 +14,8 @@ use Rattle.grammar.specs.Grammar.{action}
 use Rattle.grammar.specs.Encoding.{encodeAction}
 use Rattle.reader.specs.Results.{zeroRows}
 use Rattle.actions.specs.declared.ActionRead.{ActionRead}
-use Rattle.actions.specs.Results.{actionRead, keepRows, noMarks, assigned, marked}
+use Rattle.actions.specs.NewRows.{keepRows, assigned}
+use Rattle.actions.specs.Results.{actionRead, noneSet, variablesSet}
 use Rattle.programs.specs.declared.Image.{Image}
 use Rattle.programs.specs.Images.{places, firstAction}
 use Rattle.programs.proofs.Places.{noneAction, action-k, stored-at, length-places}
@@ -34,7 +35,7 @@ abbrev made : ℕ → List Row → List Row → List Bool → Source
 made n rs new set = record { count = n; rows = rs; new = new; set = set }
 
 offered : (p : Program) (k : ℕ) (b : Bool) (a : Action) → eqb k START ≡ b → actionOf p k ≡ a
-    → sourceOf p k ≡ made (length (cond b (p .start) (a .guards))) (sets zeroRows 0 (cond b (p .start) (a .guards))) (assigned keepRows (a .sets)) (marked noMarks (a .sets))
+    → sourceOf p k ≡ made (length (cond b (p .start) (a .guards))) (sets zeroRows 0 (cond b (p .start) (a .guards))) (assigned keepRows (a .sets)) (variablesSet noneSet (a .sets))
 offered p k b a e f = rw (e, f) refl
 
 -- what is no source offers nothing
@@ -53,15 +54,15 @@ module _ (ws : List ℕ) {g : Image} (h : Held ws g) (k : ℕ) where
       let ok = h .accepted .good in
       (ap (λ (y : Image). y .actions) (h .same), ap (λ (y : Image). y .preds) (h .same), ap (λ (y : Image). y .vars) (h .same), ok .ranges .few, ok .predicates .few, ok .actions .few)
 
-  pub start-source : k ≡ START → made (g .starts) (g .start) keepRows noMarks ≡ sourceOf p k
-  unfolding assigned marked
+  pub start-source : k ≡ START → made (g .starts) (g .start) keepRows noneSet ≡ sourceOf p k
+  unfolding assigned variablesSet
   start-source e =
       let m = counts .5 in
-      ap (λ (y : Image). made (y .starts) (y .start) keepRows noMarks) (h .same) ∙ sym (offered p k true noneAction (eq-eqb k START e) (none-at p k (omega arith)))
+      ap (λ (y : Image). made (y .starts) (y .start) keepRows noneSet) (h .same) ∙ sym (offered p k true noneAction (eq-eqb k START e) (none-at p k (omega arith)))
 
   module _ (n : k ≡ START → ⊥) where
-    pub no-source : g .actions ≤ k → made 0 zeroRows keepRows noMarks ≡ sourceOf p k
-    unfolding assigned marked
+    pub no-source : g .actions ≤ k → made 0 zeroRows keepRows noneSet ≡ sourceOf p k
+    unfolding assigned variablesSet
     no-source l = sym (offered p k false noneAction (ne-eqb k START n) (none-at p k (omega (arith, counts .0))))
 
     module _ (l : k < g .actions) where

@@ -5,7 +5,7 @@
 -- Lemma            — source, goal and index, premises, multipliers
 -- sourceRows       — the rows of the source
 -- newRows          — each variable's row afterwards
--- range            — of a variable
+-- rangeAt          — the range of a variable
 -- aboveLow, belowHigh — the rows of goals 3 and 4
 -- negatedGoal      — the negated goal's row; none where the source cannot happen
 -- rowsOf           — the rows of a lemma, each with its multiplier
@@ -24,7 +24,7 @@ use Rattle.rows.specs.declared.Row.{Row}
 use Rattle.rows.specs.declared.Range.{Range}
 use Rattle.rows.specs.Rows.{negated, largestValue, zeroRange}
 use Rattle.grammar.specs.Programs.{Program}
-use Rattle.actions.specs.Results.{keepRows, assigned}
+use Rattle.actions.specs.NewRows.{keepRows, assigned}
 use Rattle.runs.specs.Runs.{actionOf, predicate, literalRows}
 use Rattle.sums.specs.Sums.{combine, constRow, afterwards}
 
@@ -67,15 +67,15 @@ sourceRows p source = cond (eqb source START) (p .start) (actionOf p source .gua
 abbrev pub newRows : Program → ℕ → List Row
 newRows p source = assigned keepRows (actionOf p source .sets)
 
-abbrev pub range : Program → ℕ → Range
-range p v = getD (p .ranges) v zeroRange
+abbrev pub rangeAt : Program → ℕ → Range
+rangeAt p v = getD (p .ranges) v zeroRange
 
 -- The row of goal 3 is the variable minus its low end; that of goal 4 is its high end minus the variable.
 abbrev pub aboveLow : Program → ℕ → Row
-aboveLow p v = record { coef = set (replicate 8 (pos 0)) v (pos 1); constant = negℤ (range p v .low) }
+aboveLow p v = record { coef = set (replicate 8 (pos 0)) v (pos 1); constant = negℤ (rangeAt p v .low) }
 
 abbrev pub belowHigh : Program → ℕ → Row
-belowHigh p v = record { coef = set (replicate 8 (pos 0)) v (negsuc 0); constant = range p v .high }
+belowHigh p v = record { coef = set (replicate 8 (pos 0)) v (negsuc 0); constant = rangeAt p v .high }
 
 -- The goal is negated and then put through the assignments; the negation of "it fails" is the predicate itself.
 abbrev pub negatedGoal : Program → ℕ → Goal → ℕ → List Row

@@ -1,13 +1,13 @@
 -- What the readers of lemmas give, and what they work on. Only contracts of functions within the project cite these.
 --
--- theProgram             — the program that a list of words is; an empty one where it is none
+-- programOf, theProgram  — the program that was read, that a list of words is; an empty one where it is none
 -- Held                   — a list is a program, and this is its image
 -- sourceOf, shapeOf      — what a source offers; how many rows that are and which variables it sets
 -- slotOf, Slotted        — the place of a source in a table of 18; the table has this of every source
 -- goalBy, headBy, premisesBy — what a lemma's first two words may say, by the program's counts and what the source sets
--- literalCount, rowCount — how many literals a set has; how many rows a lemma has
+-- oneIf, literalCount, rowCount — 1 where a test holds; how many literals a set has; how many rows a lemma has
 -- lemmaRead              — a lemma and where reading goes on
--- lemmasFrom             — where lemmas begin, put behind those that are stored
+-- noBegins, beginsFrom   — no lemmas, and why; where lemmas begin, put behind those that are stored
 -- listed                 — where each lemma of a list begins, or the refusal
 use mathlib.Core.Path.{_≡_}
 use mathlib.Core.Bool.{Bool, false, cond, _&&_, _||_, not}
@@ -25,7 +25,7 @@ use Rattle.grammar.proofs.ProgramLaws.{Accepted}
 use Rattle.reader.specs.declared.Next.the-variants.{At}
 use Rattle.reader.specs.declared.Next.the-variants.{Refused as Stopped}
 use Rattle.reader.specs.Results.{zeroRows}
-use Rattle.actions.specs.Results.{marked, noMarks}
+use Rattle.actions.specs.Results.{variablesSet, noneSet}
 use Rattle.programs.specs.Calls.{read}
 use Rattle.programs.specs.Images.{imageOf, places}
 use Rattle.programs.specs.declared.Image.{Image}
@@ -52,7 +52,13 @@ pub record Held (ws : List ℕ) (image : Image) : Type 0 where
   pub same : image ≡ imageOf (theProgram ws)
 
 abbrev pub sourceOf : Program → ℕ → Source
-sourceOf p s = record { count = length (sourceRows p s); rows = sets zeroRows 0 (sourceRows p s); new = newRows p s; set = marked noMarks (actionOf p s .sets) }
+sourceOf p s =
+    record {
+      count = length (sourceRows p s);
+      rows = sets zeroRows 0 (sourceRows p s);
+      new = newRows p s;
+      set = variablesSet noneSet (actionOf p s .sets);
+    }
 
 abbrev pub shapeOf : Program → ℕ → Shape
 shapeOf p s = record { count = sourceOf p s .count; set = sourceOf p s .set }

@@ -13,8 +13,8 @@ use Rattle.integers.proofs.Tests.{ltZ-true, ltZ-false, lt-leZ, le-leZ}
 use Rattle.rows.specs.Bounds.{noRow}
 use Rattle.rows.specs.declared.Row.{Row}
 use Rattle.rows.specs.declared.Range.{Range}
-use Rattle.rows.specs.Rows.{zeroRange}
-use Rattle.runs.specs.Runs.{holds, within, lowestOff, allHold}
+use Rattle.rows.specs.Rows.{zeroRange, holds}
+use Rattle.runs.specs.Runs.{onRange, lowestOff, allHold}
 
 -- ---- a list copied from the front over another
 pub copied-next : (p : List ℤ) (y : ℤ) (ys : List ℤ) (v : ℕ) (s : List ℤ) → v < length s → p ≡ take v s ++ y ∷ ys → set p v (getD s v (pos 0)) ≡ take (v + 1) s ++ ys
@@ -27,15 +27,15 @@ zeros-cons n v h = let e : n - v ≡ suc (n - (v + 1)) = omega arith in rw e ref
 
 -- ---- the lowest value that is off its range
 module _ (gs : List Range) (xs : List ℤ) (v : ℕ) (l : v < length gs) (m : v < length xs) where
-  lowest-here : lowestOff (drop v gs) (drop v xs) ≡ cond (within (getD gs v zeroRange) (getD xs v (pos 0))) (suc (lowestOff (drop (suc v) gs) (drop (suc v) xs))) 0
+  lowest-here : lowestOff (drop v gs) (drop v xs) ≡ cond (onRange (getD gs v zeroRange) (getD xs v (pos 0))) (suc (lowestOff (drop (suc v) gs) (drop (suc v) xs))) 0
   unfolding lowestOff
   lowest-here = rw (drop-cons gs v zeroRange l, drop-cons xs v (pos 0) m) refl
 
-  pub lowest-on : v + lowestOff (drop v gs) (drop v xs) ≡ lowestOff gs xs → within (getD gs v zeroRange) (getD xs v (pos 0)) ≡ true
+  pub lowest-on : v + lowestOff (drop v gs) (drop v xs) ≡ lowestOff gs xs → onRange (getD gs v zeroRange) (getD xs v (pos 0)) ≡ true
       → (v + 1) + lowestOff (drop (v + 1) gs) (drop (v + 1) xs) ≡ lowestOff gs xs
   lowest-on e h = let f = rw h at lowest-here in rw (add-one v) (omega arith)
 
-  pub lowest-stop : v + lowestOff (drop v gs) (drop v xs) ≡ lowestOff gs xs → within (getD gs v zeroRange) (getD xs v (pos 0)) ≡ false → v ≡ lowestOff gs xs
+  pub lowest-stop : v + lowestOff (drop v gs) (drop v xs) ≡ lowestOff gs xs → onRange (getD gs v zeroRange) (getD xs v (pos 0)) ≡ false → v ≡ lowestOff gs xs
   lowest-stop e h = let f = rw h at lowest-here in omega arith
 
 pub lowest-end : (gs : List Range) (xs : List ℤ) (v : ℕ) → length gs ≤ v → v + lowestOff (drop v gs) (drop v xs) ≡ lowestOff gs xs → v ≡ lowestOff gs xs

@@ -1,5 +1,6 @@
 -- The numbers of an accepted program are small enough to compute with, and its parts stand in the arrays of its image.
 use mathlib.Core.Path.{_≡_, refl, ap, _∙_}
+use mathlib.Core.Bool.{true}
 use mathlib.Core.List.{List, [], _∷_, _++_}
 use Prim.Native.Nat.{ℕ, zero, suc, _+_, _≤_, _<_}
 use native.Mathlib.Omega.{arith}
@@ -12,15 +13,15 @@ use Rattle.integers.proofs.Int.{var, num, _⊕_, _⊗_, equal}
 use Rattle.integers.proofs.Laws.{Within, literal, zero-within, le-trans}
 use Rattle.rows.specs.declared.Row.{Row}
 use Rattle.rows.specs.declared.Range.{Range}
-use Rattle.rows.specs.Rows.{dot, zeroRange}
+use Rattle.rows.specs.Rows.{between, dot, zeroRange}
 use Rattle.rows.specs.Bounds.{small, maxState, Small, SmallRange, smallRanges, Read, noRow}
-use Rattle.rows.proofs.Laws.{room-weaken}
+use Rattle.rows.proofs.Laws.{between-out, room-weaken}
 use Rattle.grammar.specs.Programs.{Assignment}
-use Rattle.grammar.specs.WellFormed.{Between, Each, RangeOk, RowOk, Rising}
+use Rattle.grammar.specs.WellFormed.{Each, RangeOk, RowOk, Rising}
 use Rattle.reader.specs.Results.{zeroRow, zeroRows}
-use Rattle.actions.specs.Results.{keepRow, keepRows, assigned}
+use Rattle.actions.specs.NewRows.{keepRow, keepRows, assigned}
 use Rattle.programs.specs.Images.{zeroRanges}
-use Rattle.runs.specs.Runs.{within, lowestOff}
+use Rattle.runs.specs.Runs.{onRange, lowestOff}
 use Rattle.runs.proofs.Trying.{first-on, within-small}
 
 -- ---- something holds at every place of a list, past its end too
@@ -58,16 +59,16 @@ front-stored n d xs h =
     ap (take (length xs)) (sets-eq xs (replicate n d) 0 room) ∙ take-append-seam xs (drop (0 + length xs) (replicate n d))
 
 -- ---- small numbers
-between-within : {B : ℕ} {lo hi z : ℤ} → Within B lo → Within B hi → Between lo hi z → Within B z
-between-within l h p = record { low = le-trans (l .low) (p .0); high = le-trans (p .1) (h .high) }
+between-within : {B : ℕ} (lo hi z : ℤ) → Within B lo → Within B hi → between lo hi z ≡ true → Within B z
+between-within lo hi z l h e = let p = between-out lo hi z e in record { low = le-trans (l .low) (p .0); high = le-trans (p .1) (h .high) }
 
-each-within : (cs : List ℤ) → Each (Between (negsuc 999) (pos 1000)) cs → small 1000 cs
+each-within : (cs : List ℤ) → Each (λ c. between (negsuc 999) (pos 1000) c ≡ true) cs → small 1000 cs
 each-within [] p k = zero-within 1000
-each-within (c ∷ cs) p zero = between-within (literal tt tt) (literal tt tt) (p .0)
+each-within (c ∷ cs) p zero = between-within (negsuc 999) (pos 1000) c (literal tt tt) (literal tt tt) (p .0)
 each-within (c ∷ cs) p (suc k) = each-within cs (p .1) k
 
 row-read : {vars : ℕ} {r : Row} → RowOk vars r → Read r
-row-read {r = r} p = record { coefs = each-within (r .coef) (p .small); const = between-within (literal tt tt) (literal tt tt) (p .constant) }
+row-read {r = r} p = record { coefs = each-within (r .coef) (p .small); const = between-within (negsuc 999999) (pos 1000000) (r .constant) (literal tt tt) (literal tt tt) (p .constant) }
 
 pub read-small : {r : Row} → Read r → Small r
 read-small h = room-weaken (omega arith) (omega arith) h
@@ -104,8 +105,8 @@ pub new-rows-read : (vars : ℕ) (ss : List Assignment) → Rising vars 0 ss →
 new-rows-read vars ss p = rows-read vars keepRows 0 ss keeps-read p
 
 range-small : {g : Range} → RangeOk g → SmallRange g
-range-small p =
-    record { low = between-within (literal tt tt) (literal tt tt) (p .low); high = between-within (literal tt tt) (literal tt tt) (p .high) }
+range-small {g} p =
+    record { low = between-within (negsuc 8191) (pos 8191) (g .low) (literal tt tt) (literal tt tt) (p .low); high = between-within (negsuc 8191) (pos 8191) (g .high) (literal tt tt) (literal tt tt) (p .high) }
 
 zero-small : SmallRange zeroRange
 zero-small = record { low = zero-within maxState; high = zero-within maxState }
@@ -123,8 +124,8 @@ unfolding lowestOff
 state-small [] [] n p l h k = every-copy (Within maxState) (pos 0) n (pos 0) (zero-within maxState) (zero-within maxState) k
 state-small [] (x ∷ s) n p l h k = absurd (omega arith)
 state-small (g ∷ gs) [] n p l h k = absurd (omega arith)
-state-small (g ∷ gs) (x ∷ s) n p l h zero = within-small (range-small (p .0)) (first-on (within g x) h .0)
-state-small (g ∷ gs) (x ∷ s) n p l h (suc k) = state-small gs s n (p .1) (omega arith) (first-on (within g x) h .1) k
+state-small (g ∷ gs) (x ∷ s) n p l h zero = within-small (range-small (p .0)) (first-on (onRange g x) h .0)
+state-small (g ∷ gs) (x ∷ s) n p l h (suc k) = state-small gs s n (p .1) (omega arith) (first-on (onRange g x) h .1) k
 
 -- ---- a row of one coefficient
 unit-zeros : (n : ℕ) (x : List ℤ) → dot (replicate n (pos 0)) x ≡ pos 0

@@ -14,7 +14,7 @@ use Rattle.grammar.specs.Reading.{got}
 use Rattle.grammar.specs.Programs.{Program}
 use Rattle.programs.specs.Calls.{read}
 use Rattle.runs.specs.declared.Stepped.the-variants.{RunsOff}
-use Rattle.runs.specs.Runs.{Outcome, Finished, Inside, within, lowestOff, step, landed, enabled, newValue, newState, actionOf, run}
+use Rattle.runs.specs.Runs.{Outcome, Finished, Inside, onRange, lowestOff, step, landed, enabled, newValue, newState, actionOf, run}
 use Rattle.runs.proofs.Answers.{on-range}
 use Rattle.runs.proofs.NewValues.{values-length}
 use Rattle.runs.specs.Calls.{Stepping, outcome, stepCall}
@@ -57,7 +57,7 @@ lowest-most : (gs : List Range) (s : List ℤ) → lowestOff gs s ≤ length gs
 unfolding lowestOff
 lowest-most [] s = omega arith
 lowest-most (g ∷ gs) [] = omega arith
-lowest-most (g ∷ gs) (x ∷ s) = pick (within g x) (lowest-most gs s)
+lowest-most (g ∷ gs) (x ∷ s) = pick (onRange g x) (lowest-most gs s)
   where
     pick : (b : Bool) {n m : ℕ} → n ≤ m → cond b (suc n) 0 ≤ suc m
     pick true h = omega arith

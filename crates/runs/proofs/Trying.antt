@@ -18,21 +18,21 @@ use Rattle.rows.specs.declared.Row.{Row}
 use Rattle.rows.specs.declared.Range.{Range}
 use Rattle.rows.specs.Rows.{dot, rowValue, zeroRange}
 use Rattle.rows.specs.Bounds.{small, maxState, SmallRange, smallRanges}
-use Rattle.runs.specs.Runs.{within, lowestOff, allHold}
+use Rattle.runs.specs.Runs.{onRange, lowestOff, allHold}
 
 -- ---- values on their ranges
 pub first-on : (b : Bool) {n m : ℕ} → suc n ≤ cond b (suc m) 0 → (b ≡ true) × (n ≤ m)
 first-on true h = (refl, le-of-suc-le-suc h)
 first-on false h = absurd (not-suc-le-zero h)
 
-pub on-range : (gs : List Range) (xs : List ℤ) (v : ℕ) → length gs ≤ lowestOff gs xs → v < length gs → within (getD gs v zeroRange) (getD xs v (pos 0)) ≡ true
+pub on-range : (gs : List Range) (xs : List ℤ) (v : ℕ) → length gs ≤ lowestOff gs xs → v < length gs → onRange (getD gs v zeroRange) (getD xs v (pos 0)) ≡ true
 unfolding lowestOff
 on-range [] xs v h l = absurd (not-suc-le-zero l)
 on-range (g ∷ gs) [] v h l = absurd (not-suc-le-zero h)
-on-range (g ∷ gs) (x ∷ xs) zero h l = first-on (within g x) h .0
-on-range (g ∷ gs) (x ∷ xs) (suc v) h l = on-range gs xs v (first-on (within g x) h .1) (le-of-suc-le-suc l)
+on-range (g ∷ gs) (x ∷ xs) zero h l = first-on (onRange g x) h .0
+on-range (g ∷ gs) (x ∷ xs) (suc v) h l = on-range gs xs v (first-on (onRange g x) h .1) (le-of-suc-le-suc l)
 
-pub within-small : {g : Range} {x : ℤ} → SmallRange g → within g x ≡ true → Within maxState x
+pub within-small : {g : Range} {x : ℤ} → SmallRange g → onRange g x ≡ true → Within maxState x
 within-small {g} {x} s h =
     let (low, high) = and-true (leZ (g .low) x) (leZ x (g .high)) h in
     record { low = le-trans (s .low .low) (leZ-true (g .low) x low); high = le-trans (leZ-true x (g .high) high) (s .high .high) }

@@ -1,7 +1,7 @@
 -- States and runs, over whole numbers without bound. Nothing here knows of lemmas, graphs or machine words.
 --
--- holds, allHold    — a row holds at a state; all of some rows do
--- within, lowestOff — a value is on its range; the lowest variable whose value is not
+-- allHold           — all of some rows hold at a state
+-- onRange, lowestOff — a value is on its range; the lowest variable whose value is not
 -- Inside, Start     — a state in all ranges; a start state
 -- enabled           — an action may be taken
 -- newValue          — the value that assignments give a variable, from the old ones
@@ -17,32 +17,27 @@ use mathlib.Core.List.{List, [], _∷_, map}
 use Prim.Native.Nat.{ℕ, zero, suc, _<_}
 use lib.Dec.{eqb, ltb}
 use lib.IntN.{ℤ, pos}
-use lib.Signed.{leZ}
 use lib.ListN.{length, getD, replicate}
 use Rattle.words.specs.declared.Literals.{Literals}
 use Rattle.words.specs.LiteralSets.{Literal, B, NotB, literalsIn}
 use Rattle.rows.specs.declared.Row.{Row}
 use Rattle.rows.specs.declared.Range.{Range}
-use Rattle.rows.specs.Rows.{rowValue, negated}
+use Rattle.rows.specs.Rows.{between, rowValue, holds, negated}
 use Rattle.grammar.specs.Programs.{Assignment, Action, Program}
 use Rattle.grammar.specs.WellFormed.{Each}
-
--- A row holds at a state when its value is at least 0.
-abbrev pub holds : Row → List ℤ → Bool
-holds r s = leZ (pos 0) (rowValue r s)
 
 unfoldable pub allHold : List Row → List ℤ → Bool
 allHold [] s = true
 allHold (r ∷ rs) s = holds r s && allHold rs s
 
-abbrev pub within : Range → ℤ → Bool
-within g x = leZ (g .low) x && leZ x (g .high)
+abbrev pub onRange : Range → ℤ → Bool
+onRange g x = between (g .low) (g .high) x
 
 -- The lowest variable whose value is off its range; the number of variables if there is none.
 unfoldable pub lowestOff : List Range → List ℤ → ℕ
 lowestOff [] s = 0
 lowestOff (g ∷ gs) [] = 0
-lowestOff (g ∷ gs) (x ∷ s) = cond (within g x) (suc (lowestOff gs s)) 0
+lowestOff (g ∷ gs) (x ∷ s) = cond (onRange g x) (suc (lowestOff gs s)) 0
 
 -- A start state lies in all ranges and meets every start row.
 pub record Inside (p : Program) (s : List ℤ) : Type 0 where

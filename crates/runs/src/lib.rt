@@ -8,7 +8,7 @@ ghost use mir.Syntax.{w32};
 ghost use mir.Val.{SFits};
 ghost use Rattle.rows.specs.Rows.{rowValue};
 ghost use Rattle.rows.specs.Bounds.{small, Small, smallRanges, maxState};
-ghost use Rattle.runs.specs.Runs.{within, lowestOff, allHold};
+ghost use Rattle.runs.specs.Runs.{onRange, lowestOff, allHold};
 ghost use Rattle.runs.specs.Calls.{stepCall};
 ghost use Rattle.runs.specs.Values.{padded, SmallRows, tried};
 use actions::ActionRead;
@@ -49,7 +49,7 @@ fn widened(state: &[i32]) -> [i64; 8]
 
 // Is a value on its range?
 fn on_range(range: Range, x: i64) -> bool
-    ensures { λ r. ⌜ r ≡ within range x ⌝ }
+    ensures { λ r. ⌜ r ≡ onRange range x ⌝ }
 {
     let low = range.low;
     let high = range.high;

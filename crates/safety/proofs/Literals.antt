@@ -14,11 +14,11 @@ use borrow.Author.Tests.{eqb-true}
 use Rattle.integers.proofs.Tests.{and-true, leZ-true, leZ-false, le-leZ, or-true, false-true}
 use Rattle.words.specs.declared.Literals.{Literals}
 use Rattle.rows.specs.declared.Row.{Row}
-use Rattle.rows.specs.Rows.{rowValue, negated}
+use Rattle.rows.specs.Rows.{rowValue, negated, holds}
 use Rattle.rows.proofs.Laws.{negation}
 use Rattle.grammar.specs.Programs.{Program}
 use Rattle.grammar.specs.WellFormed.{Each}
-use Rattle.runs.specs.Runs.{holds, allHold, predicate, literalRow, meets}
+use Rattle.runs.specs.Runs.{allHold, predicate, literalRow, meets}
 use Rattle.lemmas.proofs.Sound.{fails}
 use Rattle.words.specs.LiteralSets.{Literal, B, NotB, literalIf, literalsIn, has}
 use Rattle.abstraction.specs.Abstraction.{sameLiteral, among, allAmong}

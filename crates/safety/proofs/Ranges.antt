@@ -13,7 +13,7 @@ use Rattle.rows.specs.declared.Range.{Range}
 use Rattle.rows.specs.Rows.{zeroRange}
 use Rattle.grammar.specs.Programs.{Assignment, Action, Program}
 use Rattle.grammar.specs.WellFormed.{Each}
-use Rattle.runs.specs.Runs.{within, lowestOff, Inside, newValue, newState}
+use Rattle.runs.specs.Runs.{onRange, lowestOff, Inside, newValue, newState}
 use Rattle.runs.proofs.Trying.{on-range}
 use Rattle.runs.proofs.NewValues.{values-length, value-at}
 
@@ -26,7 +26,7 @@ set-or-kept P (x ∷ ss) s v h = elim (ℕ-discrete (x .variable) v) [
   | no n ↦ rw (ne-eqb (x .variable) v n) (set-or-kept P ss s v (h .1))
 ]
 
-none-off : (gs : List Range) (xs : List ℤ) → length xs ≡ length gs → ((v : ℕ) → v < length gs → within (getD gs v zeroRange) (getD xs v (pos 0)) ≡ true) → lowestOff gs xs ≡ length gs
+none-off : (gs : List Range) (xs : List ℤ) → length xs ≡ length gs → ((v : ℕ) → v < length gs → onRange (getD gs v zeroRange) (getD xs v (pos 0)) ≡ true) → lowestOff gs xs ≡ length gs
 unfolding lowestOff
 none-off [] xs l h = refl
 none-off (g ∷ gs) [] l h = absurd (omega arith)
@@ -34,7 +34,7 @@ none-off (g ∷ gs) (x ∷ xs) l h = rw (h 0 (omega arith)) (ap suc (none-off gs
 
 -- the value of v is on its range
 abbrev pub On : Program → List ℤ → ℕ → Type 0
-On p t v = within (getD (p .ranges) v zeroRange) (getD t v (pos 0)) ≡ true
+On p t v = onRange (getD (p .ranges) v zeroRange) (getD t v (pos 0)) ≡ true
 
 pub stays-inside : (p : Program) (s : List ℤ) → Inside p s → (a : Action) → Each (λ x. On p (newState a s) (x .variable)) (a .sets) → Inside p (newState a s)
 stays-inside p s inside a h =

@@ -13,7 +13,7 @@ use Rattle.grammar.specs.WellFormed.{Each, WellFormed}
 use Rattle.programs.proofs.Places.{noneAction}
 use Rattle.runs.specs.Runs.{lowestOff, Inside, Start, enabled, newState, Outcome, Moved, NotEnabled, RunsOff, landed, actionOf, step, forbidden, Run, onward, run, SafeRun, Safe}
 use Rattle.runs.proofs.NewValues.{none-set}
-use Rattle.lemmas.specs.Lemmas.{NotBelow, NotAbove, Lemma, START, range}
+use Rattle.lemmas.specs.Lemmas.{NotBelow, NotAbove, Lemma, START, rangeAt}
 use Rattle.lemmas.specs.LemmaGrammar.{LemmaOk}
 use Rattle.lemmas.specs.Truth.{happens}
 use Rattle.words.specs.LiteralSets.{Literal}
@@ -85,7 +85,7 @@ module _ (p : Program) (ok : WellFormed p) where
               let v = x .variable in
               let y = getD after v (pos 0) in
               let shows = claims p ok s (h .inside) j may here (h .described) ls good in
-              (rw (le-leZ (range p v .low) y (shows NotBelow v (q .0 .0)), le-leZ y (range p v .high) (shows NotAbove v (q .0 .1))) refl, each-on ss (q .1))
+              (rw (le-leZ (rangeAt p v .low) y (shows NotBelow v (q .0 .0)), le-leZ y (rangeAt p v .high) (shows NotAbove v (q .0 .1))) refl, each-on ss (q .1))
 
           known-after : Known p g after
           known-after =

@@ -15,7 +15,7 @@ use Rattle.grammar.specs.WellFormed.{Each, WellFormed}
 use Rattle.runs.specs.Runs.{Inside, newState, actionOf, predicate}
 use Rattle.lemmas.specs.Lemmas.{Goal, CannotHappen, HoldsAfter, FailsAfter, goalNumber, Lemma, accepted}
 use Rattle.lemmas.specs.LemmaGrammar.{LemmaOk}
-use Rattle.lemmas.specs.Truth.{happens, Claim}
+use Rattle.lemmas.specs.Truth.{happens, Says}
 use Rattle.lemmas.proofs.LemmaLaws.{same-goal}
 use Rattle.lemmas.proofs.Sound.{accepted-true}
 use Rattle.words.specs.LiteralSets.{Literal, B, NotB, literalsIn}
@@ -58,7 +58,7 @@ module _ (p : Program) (ok : WellFormed p) (s : List ℤ) (inside : Inside p s) 
   abbrev after : List ℤ
   after = newState (actionOf p source) s
 
-  lemma-claims : (l : Lemma) → LemmaOk p l → (goal : Goal) (index : ℕ) → lemmaApplies p source exp goal index l ≡ true → Claim p goal index after
+  lemma-claims : (l : Lemma) → LemmaOk p l → (goal : Goal) (index : ℕ) → lemmaApplies p source exp goal index l ≡ true → Says p goal index after
   lemma-claims l good goal index e =
       let a = accepted p l in
       let b = eqb (l .source) source in
@@ -76,7 +76,7 @@ module _ (p : Program) (ok : WellFormed p) (s : List ℤ) (inside : Inside p s) 
       (rw same may))
 
   -- what an applying lemma of the list claims
-  pub claims : (ls : List Lemma) → Each (LemmaOk p) ls → (goal : Goal) (index : ℕ) → applies p ls source exp goal index ≡ true → Claim p goal index after
+  pub claims : (ls : List Lemma) → Each (LemmaOk p) ls → (goal : Goal) (index : ℕ) → applies p ls source exp goal index ≡ true → Says p goal index after
   unfolding applies
   claims [] good goal index e = false-true e
   claims (l ∷ ls) good goal index e =

@@ -15,7 +15,7 @@ use borrow.Author.Tests.{eqb-true, eq-eqb, ne-eqb, lt-ltb, le-ltb}
 use Rattle.integers.proofs.Tests.{or-true}
 use Rattle.grammar.specs.Programs.{Assignment, Action, Program}
 use Rattle.grammar.specs.WellFormed.{Rising, WellFormed}
-use Rattle.actions.specs.Results.{marked, noMarks}
+use Rattle.actions.specs.Results.{variablesSet, noneSet}
 use Rattle.runs.specs.Runs.{actionOf}
 use Rattle.lemmas.specs.Lemmas.{Goal, NotBelow, NotAbove, goalNumber, Lemma}
 use Rattle.lemmas.specs.LemmaGrammar.{setsVariable}
@@ -168,10 +168,10 @@ module _ (p : Program) (ls : List Lemma) (es : List Entry) (good : WellFormed p)
       let small : (u : ℕ) → setsVariable sets-of u ≡ true → u < 8 = λ u e. omega (arith, rising-within (length (p .ranges)) 0 sets-of u rising e) in
       record {
         below = λ u e. (
-          λ l. sym (applying j set NotBelow u (low-end (small u e))) ∙ eq-eqb _ 1 (before (placeOf 3 u) l (asked-is (marked noMarks sets-of) 8 (placeOf 3 u) .1 (u, small u e, marks-are u ∙ e, inl refl))),
-          λ l. sym (applying j set NotAbove u (high-end (small u e))) ∙ eq-eqb _ 1 (before (placeOf 4 u) l (asked-is (marked noMarks sets-of) 8 (placeOf 4 u) .1 (u, small u e, marks-are u ∙ e, inr refl))),
+          λ l. sym (applying j set NotBelow u (low-end (small u e))) ∙ eq-eqb _ 1 (before (placeOf 3 u) l (asked-is (variablesSet noneSet sets-of) 8 (placeOf 3 u) .1 (u, small u e, marks-are u ∙ e, inl refl))),
+          λ l. sym (applying j set NotAbove u (high-end (small u e))) ∙ eq-eqb _ 1 (before (placeOf 4 u) l (asked-is (variablesSet noneSet sets-of) 8 (placeOf 4 u) .1 (u, small u e, marks-are u ∙ e, inr refl))),
         );
-        at = λ l. let (u, h, e, s) = asked-is (marked noMarks sets-of) 8 m .0 (at l .0) in (
+        at = λ l. let (u, h, e, s) = asked-is (variablesSet noneSet sets-of) 8 m .0 (at l .0) in (
           u,
           sym (marks-are u) ∙ e,
           ⊎-elim (λ q. inl (q, sym (applying j set NotBelow u (low-end h)) ∙ ne-eqb _ 1 (λ z. at l .1 (rw q z))))

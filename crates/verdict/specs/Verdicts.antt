@@ -54,7 +54,8 @@ forbids k m b (c ∷ cs) = unless (contradicted (literalsIn 14 (c .0)) m) (Forbi
 unfoldable pub ends : (Goal → ℕ → Bool) → ℕ → ℕ → List Assignment → List Finding
 ends shows k j [] = []
 ends shows k j (s ∷ ss) =
-    unless (shows NotBelow (s .variable)) (RunOff k j (s .variable) false) ++ (unless (shows NotAbove (s .variable)) (RunOff k j (s .variable) true) ++ ends shows k j ss)
+    unless (shows NotBelow (s .variable)) (RunOff k j (s .variable) false)
+    ++ (unless (shows NotAbove (s .variable)) (RunOff k j (s .variable) true) ++ ends shows k j ss)
 
 abbrev pub hasNext : Monomial → Bool
 hasNext False = false

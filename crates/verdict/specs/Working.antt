@@ -21,7 +21,7 @@ use Rattle.words.specs.Words.{noLiterals}
 use Rattle.words.specs.declared.Literals.{Literals}
 use Rattle.grammar.specs.Programs.{Action, Program}
 use Rattle.grammar.specs.WellFormed.{WellFormed}
-use Rattle.actions.specs.Results.{marked, noMarks}
+use Rattle.actions.specs.Results.{variablesSet, noneSet}
 use Rattle.lemmas.specs.Lemmas.{Goal, goalNumber, Lemma}
 use Rattle.sets.specs.Sets.{clashes}
 use Rattle.gather.specs.Gathering.{Placed, Entry, placeOf, gathered, successorOf, askEnds, firstMissing}
@@ -65,7 +65,7 @@ endsTo marks zero = 0
 endsTo marks (suc v) = cond (getD marks v false) (askEnds (endsTo marks v) v) (endsTo marks v)
 
 abbrev pub endsOf : Action → ℕ
-endsOf a = endsTo (marked noMarks (a .sets)) 8
+endsOf a = endsTo (variablesSet noneSet (a .sets)) 8
 
 -- 0 past the last action
 abbrev pub askedEnds : Program → List ℕ

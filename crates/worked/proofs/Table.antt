@@ -15,11 +15,11 @@ use lib.ListN.{length, getD, replicate, drop}
 use Rattle.words.specs.Refusals.{number, value}
 use Rattle.words.specs.declared.Refusal.{Refusal}
 use Rattle.words.specs.declared.Refusal.the-variants.{Word, Value}
-use Rattle.rows.specs.Rows.{dot, ends}
+use Rattle.rows.specs.Rows.{dot, corner}
 use Rattle.grammar.specs.Reading.{got, due, one, times, many}
 use Rattle.grammar.specs.Programs.{Program}
 use Rattle.grammar.specs.Grammar.{program, ranges, rows, end, coefs, row, assignment, sets, action}
-use Rattle.actions.specs.Results.{assigned}
+use Rattle.actions.specs.NewRows.{assigned}
 use Rattle.programs.specs.Calls.{read, check}
 use Rattle.programs.specs.declared.Checked.the-variants.{Good, Refused}
 use Rattle.sums.specs.Sums.{plusTimes, combine}
@@ -113,7 +113,7 @@ pub record Table : Type 0 where
 pub worked : Table
 unfolding
     program ranges rows end coefs row assignment sets action due one times many setsVariable lemma list assigned plusTimes combine
-    dot ends firstOff conjuncts explored run turns linksIn literalsIn among allAmong applies setOf contradicted forbids runsOff rangeEnds
+    dot corner firstOff conjuncts explored run turns linksIn literalsIn among allAmong applies setOf contradicted forbids runsOff rangeEnds
     findingsFrom edgeRow recordsOf back
 worked =
     record {

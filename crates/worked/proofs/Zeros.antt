@@ -6,7 +6,7 @@ use borrow.Author.Tests.{lt-leb}
 use lib.IntN.{ℤ, pos, zero-*ℤ}
 use lib.ListN.{length, getD}
 use Rattle.rows.specs.declared.Row.{Row}
-use Rattle.rows.specs.Rows.{dot, ends}
+use Rattle.rows.specs.Rows.{dot, corner}
 use Rattle.grammar.specs.Reading.{got}
 use Rattle.grammar.specs.Programs.{Program}
 use Rattle.grammar.specs.WellFormed.{Each}
@@ -50,7 +50,7 @@ combine-zero s (m ∷ ms) (r ∷ rs) h z =
 largest-zero : (p : Program) (l : Lemma) → Zeros (l .multipliers) → largestOf p l ≡ pos 0
 largest-zero p l z =
     let t = combine-zero (constRow (pos 0)) (l .multipliers) (rowsOf p l) (record { coefs = (refl, (refl, (refl, (refl, (refl, (refl, (refl, (refl, tt)))))))); const = refl }) z in
-    rw (dot-zero (total p l .coef) (ends (total p l .coef) (p .ranges)) (t .coefs), t .const)
+    rw (dot-zero (total p l .coef) (corner (total p l .coef) (p .ranges)) (t .coefs), t .const)
 
 pub zeros-not-accepted : (ws lemmas : List ℕ) (k : ℕ) (p : Program) (ls : List Lemma) {us vs : List ℕ} {i j : ℕ}
     → read ws ≡ got p us i → readLemmas p lemmas ≡ got ls vs j → k < length ls → Zeros (getD ls k noLemma .multipliers) → ask ws lemmas k ≡ NotAccepted

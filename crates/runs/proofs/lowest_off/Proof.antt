@@ -10,7 +10,7 @@ use native.Mathlib.Omega.{arith}
 use lib.ListN.{length, take, drop, getD}
 use lib.Seq.{length-take-le, getD-take}
 use Rattle.integers.proofs.Tests.{not-true, not-false}
-use Rattle.runs.specs.Runs.{within, lowestOff}
+use Rattle.runs.specs.Runs.{onRange, lowestOff}
 use Rattle.runs.proofs.Loops.{lowest-on, lowest-stop, lowest-end}
 use borrow.Author.Needs.{needs}
 use Rattle.runs.proofs.lowest_off.Statement.{statement}
@@ -32,7 +32,7 @@ inside : (c : tie.In-loop Inv-loop μ-loop) → (c .before .loop .v < length (ta
 inside c = let (l, m) = lengths (c .before .before) in (omega arith, omega arith)
 
 test-is : (c : tie.After-on-range Inv-loop μ-loop)
-    → c .on-range .result ≡ within (getD (take (c .before .before .before .before .before .args .n) (c .before .before .before .before .before .args .t1)) (c .before .before .before .before .loop .v) zeroRange) (getD (take (c .before .before .before .before .before .args .n) (c .before .before .before .before .before .args .t3)) (c .before .before .before .before .loop .v) (pos 0))
+    → c .on-range .result ≡ onRange (getD (take (c .before .before .before .before .before .args .n) (c .before .before .before .before .before .args .t1)) (c .before .before .before .before .loop .v) zeroRange) (getD (take (c .before .before .before .before .before .args .n) (c .before .before .before .before .before .args .t3)) (c .before .before .before .before .loop .v) (pos 0))
 test-is c =
     let s = c .before .before .before .before .before .args in
     let v = c .before .before .before .before .loop .v in
