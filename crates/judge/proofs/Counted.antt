@@ -8,7 +8,7 @@ use native.Mathlib.Nat.{mul-add-mod-self-right, mod-eq-of-lt}
 use lib.ListN.{length, take, drop, replicate, length-append, length-replicate}
 use lib.Seq.{take-at}
 use borrow.Author.Tests.{ne-eqb}
-use Rattle.words.specs.Words.{kindOf, payload, word, SETS}
+use Rattle.words.specs.Words.{payload, word, SETS, ORIGIN, EDGE, noNode}
 use Rattle.words.specs.LiteralSets.{setOf}
 use Rattle.words.proofs.Laws.{kind-word}
 use Rattle.grammar.specs.Programs.{Program}
@@ -16,7 +16,7 @@ use Rattle.grammar.specs.WellFormed.{WellFormed}
 use Rattle.lemmas.specs.Lemmas.{Lemma}
 use Rattle.formula.specs.Formula.{Monomial, False, And}
 use Rattle.search.specs.Search.{Answer, To, None, Origin, Root, From, Graph, count, links, nodeWord, origin, edge}
-use Rattle.records.specs.Records.{ORIGIN, EDGE, originWord, edgeWord, mostNodes, graphWords, recordPlace, recordsOf}
+use Rattle.records.specs.Records.{originWord, edgeWord, mostNodes, graphWords, recordPlace, recordsOf}
 use Rattle.records.specs.Naming.{names, naming}
 use Rattle.records.proofs.Stores.{leads}
 use Rattle.records.proofs.Places.{most}
@@ -35,7 +35,7 @@ edge-names : (m : ℕ) → m < mostNodes → naming (edgeWord (To m) ∷ []) ≡
 unfolding naming
 edge-names m h =
     let e : payload (word EDGE m) ≡ m = mul-add-mod-self-right EDGE (2 ^ 28) m ∙ mod-eq-of-lt (omega arith) in
-    rw (kind-word EDGE m (omega arith), e, ne-eqb m (2 ^ 28 - 1) (λ z. omega arith)) refl
+    rw (kind-word EDGE m (omega arith), e, ne-eqb m noNode (λ z. omega arith)) refl
 
 module _ (p : Program) (ok : WellFormed p) (ls : List Lemma) (g : Graph) (f : Faithful p ls g) (few : count g ≤ mostNodes) where
   node-plain : (k : ℕ) → k < count g → names (nodeWord g k) ≡ false

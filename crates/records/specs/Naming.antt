@@ -4,14 +4,13 @@
 -- naming — how many of a list are
 use mathlib.Core.Bool.{Bool, cond, _&&_, not}
 use mathlib.Core.List.{List, [], _∷_}
-use Prim.Native.Nat.{ℕ, suc, _-_, _^_}
+use Prim.Native.Nat.{ℕ, suc}
 use lib.Dec.{eqb}
-use Rattle.words.specs.Words.{kindOf, payload}
-use Rattle.records.specs.Records.{EDGE}
+use Rattle.words.specs.Words.{kindOf, payload, EDGE, noNode}
 
 -- all 28 bits ones for none
 abbrev pub names : ℕ → Bool
-names w = eqb (kindOf w) EDGE && not (eqb (payload w) (2 ^ 28 - 1))
+names w = eqb (kindOf w) EDGE && not (eqb (payload w) noNode)
 
 unfoldable pub naming : List ℕ → ℕ
 naming [] = 0
