@@ -19,7 +19,8 @@ use Rattle.reader.specs.declared.Next.the-variants.{At, Refused}
 use Rattle.reader.specs.Results.{nextOf}
 use Rattle.reader.proofs.RowsLoop.{answer-refused, answer-at, left-is, left-within}
 use Rattle.actions.specs.declared.SetRead.{SetRead}
-use Rattle.actions.specs.Results.{setRead, assigned, marked, setsFrom, setsRead, noSets, keepRows, noMarks}
+use Rattle.actions.specs.Results.{setRead, marked, setsFrom, setsRead, noSets, noMarks}
+use Rattle.actions.specs.NewRows.{assigned, keepRows}
 
 -- ---- an assignment from its first word and its row
 module _ (vars v : ℕ) (ws : List ℕ) (i : ℕ) where

@@ -1,10 +1,9 @@
 -- What the readers of assignments and actions give, by what the grammar says.
 --
 -- setRead    — an assignment and where reading goes on
--- keepRow    — the row that is worth the variable itself
--- keepRows   — that row for each of the eight variables
--- assigned   — each variable's row after assignments: the last one's, or the row that was there
 -- marked     — which variables are set
+-- noMarks    — none is
+-- noSets     — no assignments, and why
 -- setsFrom   — assignments put on top of given rows and marks
 -- setsRead   — assignments put on top of the rows that keep every variable
 -- noAction   — no action, and why
@@ -13,7 +12,6 @@
 use mathlib.Core.Bool.{Bool, true, false}
 use mathlib.Core.List.{List, [], _∷_}
 use Prim.Native.Nat.{ℕ}
-use lib.IntN.{pos}
 use lib.ListN.{length, set, replicate}
 use lib.Seq.{sets}
 use Rattle.words.specs.declared.Refusal.{Refusal}
@@ -23,6 +21,7 @@ use Rattle.grammar.specs.Programs.{Assignment, Action}
 use Rattle.reader.specs.declared.Next.{Next}
 use Rattle.reader.specs.declared.Next.the-variants.{At, Refused}
 use Rattle.reader.specs.Results.{zeroRow, zeroRows}
+use Rattle.actions.specs.NewRows.{keepRows, assigned}
 use Rattle.actions.specs.declared.SetRead.{SetRead}
 use Rattle.actions.specs.declared.Sets.{Sets}
 use Rattle.actions.specs.declared.ActionRead.{ActionRead}
@@ -30,16 +29,6 @@ use Rattle.actions.specs.declared.ActionRead.{ActionRead}
 abbrev pub setRead : Read Assignment → SetRead
 setRead (got s ws i) = record { variable = s .variable; row = s .row; next = At i }
 setRead (refused x) = record { variable = 0; row = zeroRow; next = Refused x }
-
-abbrev pub keepRow : ℕ → Row
-keepRow v = record { coef = set (replicate 8 (pos 0)) v (pos 1); constant = pos 0 }
-
-abbrev pub keepRows : List Row
-keepRows = keepRow 0 ∷ keepRow 1 ∷ keepRow 2 ∷ keepRow 3 ∷ keepRow 4 ∷ keepRow 5 ∷ keepRow 6 ∷ keepRow 7 ∷ []
-
-unfoldable pub assigned : List Row → List Assignment → List Row
-assigned rs [] = rs
-assigned rs (s ∷ ss) = assigned (set rs (s .variable) (s .row)) ss
 
 unfoldable pub marked : List Bool → List Assignment → List Bool
 marked bs [] = bs

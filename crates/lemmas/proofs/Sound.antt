@@ -17,7 +17,7 @@ use Rattle.rows.proofs.Laws.{negation}
 use Rattle.grammar.specs.Programs.{Assignment, Program}
 use Rattle.grammar.specs.WellFormed.{Each, RowOk, Rising, ActionOk, WellFormed}
 use Rattle.reader.specs.Results.{zeroRow}
-use Rattle.actions.specs.Results.{keepRows, assigned}
+use Rattle.actions.specs.NewRows.{keepRows, assigned}
 use Rattle.programs.proofs.Places.{noneAction}
 use Rattle.words.specs.declared.Literals.{Literals}
 use Rattle.words.specs.LiteralSets.{Literal, B, NotB, literalsIn}

@@ -14,9 +14,10 @@ use Rattle.grammar.specs.Grammar.{action}
 use Rattle.grammar.specs.Encoding.{encodeAction}
 use Rattle.reader.specs.Results.{zeroRows}
 use Rattle.actions.specs.declared.ActionRead.{ActionRead}
-use Rattle.actions.specs.Results.{actionRead, keepRows, noMarks, assigned, marked}
+use Rattle.actions.specs.Results.{actionRead, noMarks, marked}
+use Rattle.actions.specs.NewRows.{keepRows, assigned}
 use Rattle.programs.specs.declared.Image.{Image}
-use Rattle.programs.specs.Images.{places, firstAction}
+use Rattle.programs.specs.Places.{places, firstAction}
 use Rattle.programs.proofs.Places.{noneAction, action-k, stored-at, length-places}
 use Rattle.runs.specs.Runs.{actionOf}
 use Rattle.lemmas.specs.Lemmas.{START}

@@ -24,7 +24,7 @@ use Rattle.rows.specs.declared.Row.{Row}
 use Rattle.rows.specs.declared.Range.{Range}
 use Rattle.rows.specs.Rows.{negated, largestValue, zeroRange}
 use Rattle.grammar.specs.Programs.{Program}
-use Rattle.actions.specs.Results.{keepRows, assigned}
+use Rattle.actions.specs.NewRows.{keepRows, assigned}
 use Rattle.runs.specs.Runs.{actionOf, predicate, literalRows}
 use Rattle.sums.specs.Sums.{combine, constRow, afterwards}
 

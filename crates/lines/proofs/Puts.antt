@@ -5,7 +5,8 @@ use Prim.Native.Nat.{ℕ, _+_, _≤_}
 use native.Mathlib.Omega.{arith}
 use lib.ListN.{length, take, drop, length-append, take-append-drop}
 use lib.Seq.{paste, take-at, drop-at, drop-drop, take-length, length-take-le}
-use Rattle.lines.specs.Text.{text, put, Put, decimal, field, line}
+use Rattle.lines.specs.Text.{text, decimal, field, line}
+use Rattle.lines.specs.Puts.{put, Put}
 
 pub copied : (out : List ℕ) (at : ℕ) (text : List ℕ) → paste out at text (length text) ≡ put out at text
 unfolding put

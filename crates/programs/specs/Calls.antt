@@ -13,7 +13,7 @@ use Rattle.grammar.specs.Reading.{Read, got, refused}
 use Rattle.grammar.specs.Programs.{Program}
 use Rattle.grammar.specs.Grammar.{program}
 use Rattle.grammar.specs.Encoding.{encodeAction}
-use Rattle.programs.specs.Images.{places, firstAction}
+use Rattle.programs.specs.Places.{places, firstAction}
 use Rattle.programs.specs.declared.Counts.{Counts}
 use Rattle.programs.specs.declared.Part.{Part}
 use Rattle.programs.specs.declared.Checked.{Checked}

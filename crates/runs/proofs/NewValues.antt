@@ -16,7 +16,7 @@ use Rattle.rows.specs.Rows.{rowValue}
 use Rattle.rows.specs.Bounds.{noRow}
 use Rattle.grammar.specs.Programs.{Assignment}
 use Rattle.grammar.specs.WellFormed.{Rising}
-use Rattle.actions.specs.Results.{keepRow, keepRows, assigned}
+use Rattle.actions.specs.NewRows.{keepRow, keepRows, assigned}
 use Rattle.programs.proofs.Places.{noneAction}
 use Rattle.runs.specs.Runs.{newValue, valuesFrom, newState}
 use Rattle.runs.specs.Values.{padded}

@@ -18,7 +18,7 @@ use Rattle.rows.proofs.Laws.{room-weaken}
 use Rattle.grammar.specs.Programs.{Assignment}
 use Rattle.grammar.specs.WellFormed.{Between, Each, RangeOk, RowOk, Rising}
 use Rattle.reader.specs.Results.{zeroRow, zeroRows}
-use Rattle.actions.specs.Results.{keepRow, keepRows, assigned}
+use Rattle.actions.specs.NewRows.{keepRow, keepRows, assigned}
 use Rattle.programs.specs.Images.{zeroRanges}
 use Rattle.runs.specs.Runs.{within, lowestOff}
 use Rattle.runs.proofs.Trying.{first-on, within-small}

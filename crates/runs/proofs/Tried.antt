@@ -15,7 +15,8 @@ use Rattle.grammar.specs.Reading.{got}
 use Rattle.grammar.specs.Programs.{Action}
 use Rattle.grammar.specs.WellFormed.{ActionOk}
 use Rattle.reader.specs.Results.{zeroRow, zeroRows}
-use Rattle.actions.specs.Results.{actionRead, keepRows, assigned}
+use Rattle.actions.specs.Results.{actionRead}
+use Rattle.actions.specs.NewRows.{keepRows, assigned}
 use Rattle.programs.specs.Images.{zeroRanges}
 use Rattle.runs.specs.Runs.{Outcome, allHold, lowestOff, newValue, newState, enabled, landed}
 use Rattle.runs.specs.Calls.{outcome, stay}

@@ -19,7 +19,7 @@ use Rattle.rows.specs.Rows.{dot, ends}
 use Rattle.grammar.specs.Reading.{got, due, one, times, many}
 use Rattle.grammar.specs.Programs.{Program}
 use Rattle.grammar.specs.Grammar.{program, ranges, rows, end, coefs, row, assignment, sets, action}
-use Rattle.actions.specs.Results.{assigned}
+use Rattle.actions.specs.NewRows.{assigned}
 use Rattle.programs.specs.Calls.{read, check}
 use Rattle.programs.specs.declared.Checked.the-variants.{Good, Refused}
 use Rattle.sums.specs.Sums.{plusTimes, combine}
@@ -33,7 +33,7 @@ use Rattle.search.specs.Paths.{back}
 use Rattle.records.specs.Records.{graphWords, edgeRow, recordsOf}
 use Rattle.words.specs.LiteralSets.{literalsIn, setOf}
 use Rattle.abstraction.specs.Abstraction.{among, allAmong, applies}
-use Rattle.tables.specs.Tabled.{firstOff}
+use Rattle.tables.specs.Off.{firstOff}
 use Rattle.verdict.specs.Verdicts.{pathWords, contradicted, forbids, runsOff, findingsFrom}
 use Rattle.verdict.specs.Verdicts.{ends as rangeEnds}
 use Rattle.judge.specs.Calls.{Judgement, judgeProgram, judge}
