@@ -68,7 +68,7 @@ def without_comment(line):
 
 def used_names(line):
     """`use PATH.{a, b as c}`: the path, and each name here with its name there."""
-    found = re.match(r"\s*(?:ghost )?use ([^{]*)\.\{(.*)\};?\s*$", line)
+    found = re.match(r"\s*(?:ghost |pub )?use ([^{]*)\.\{(.*)\};?\s*$", line)
     if not found:
         raise Unknown(f"a use that cannot be read: {line}")
     names = {}
@@ -229,7 +229,7 @@ class Crates:
             block = got[i:j]
             words = code.split()
             plain = [w for w in words if w not in MODIFIERS]
-            if words[0] == "use":
+            if words[0] == "use" or words[:2] == ["pub", "use"]:
                 self.use(f.used, f.parts, " ".join(b[2] for b in block))
             elif words[0].startswith("infix") or words[0] == "unfolding":
                 pass
@@ -317,11 +317,23 @@ class Crates:
                 return False
             if what[0] == "declared":
                 return True
-            d = self.file(what[1]).own.get(what[2])
-            return d is not None and d.kind == "data"
+            d = self.lookup(what[1], what[2])
+            return isinstance(d, Definition) and d.kind == "data"
         return head != name and self.is_constructor(f, head)
 
     # ---- names
+    def lookup(self, key, name):
+        """What a name of a file stands for there; a file may pass on (`pub use`) what it took from another."""
+        f = self.file(key)
+        if name in f.own:
+            return f.own[name]
+        what = f.used.get(name)
+        if what is None or what[0] == "declared":
+            if name not in f.used:
+                raise Unknown(f"{'/'.join(key)} has no {name}")
+            return what
+        return self.lookup(what[1], what[2])
+
     def resolve(self, f_used, f_own, f_parts, name, where):
         """The definition or type that a name stands for; None for the libraries' names."""
         for one in (name, f_parts.get(name), name.split(".")[0]):
@@ -333,10 +345,7 @@ class Crates:
                     return None
                 if what[0] == "declared":
                     return what
-                d = self.file(what[1]).own.get(what[2])
-                if d is None:
-                    raise Unknown(f"{where}: {what[1]} has no {what[2]}")
-                return d
+                return self.lookup(what[1], what[2])
         raise Unknown(f"{where}: `{name}` cannot be resolved")
 
     def named_by(self, d, with_body=True):

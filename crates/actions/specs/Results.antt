@@ -51,7 +51,14 @@ abbrev pub noAction : Refusal → ActionRead
 noAction x = record { guards = 0; guard = zeroRows; rows = keepRows; set = noMarks; next = Refused x }
 
 abbrev pub actionRead : Read Action → ActionRead
-actionRead (got a ws i) = record { guards = length (a .guards); guard = sets zeroRows 0 (a .guards); rows = assigned keepRows (a .sets); set = marked noMarks (a .sets); next = At i }
+actionRead (got a ws i) =
+    record {
+      guards = length (a .guards);
+      guard = sets zeroRows 0 (a .guards);
+      rows = assigned keepRows (a .sets);
+      set = marked noMarks (a .sets);
+      next = At i;
+    }
 actionRead (refused x) = noAction x
 
 abbrev pub withSets : ℕ → List Row → Sets → Next → ActionRead

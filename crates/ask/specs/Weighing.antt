@@ -1,6 +1,6 @@
 -- A lemma at an index of a list, and the row of its goal. Only contracts of functions within the project cite these.
 --
--- theLemma — the lemma that begins at an index; `noLemma` where there is none
+-- lemmaOr, theLemma — the lemma that begins at an index; `noLemma` where there is none
 -- IsLemma  — a lemma begins there
 -- endRow   — the row of goal 3 or 4
 -- goalRow  — the row of a goal, from the arrays of an image

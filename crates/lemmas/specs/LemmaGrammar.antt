@@ -91,7 +91,8 @@ abbrev pub encodeMultiplier : ℕ → List ℕ
 encodeMultiplier m = word MULT m ∷ []
 
 abbrev pub encodeLemma : Lemma → List ℕ
-encodeLemma l = word LEMMA (l .source * 2 ^ 20 + goalNumber (l .goal) * 2 ^ 16 + l .index) ∷ word SETS (l .premises .0) ∷ concat encodeMultiplier (l .multipliers)
+encodeLemma l =
+    word LEMMA (l .source * 2 ^ 20 + goalNumber (l .goal) * 2 ^ 16 + l .index) ∷ word SETS (l .premises .0) ∷ concat encodeMultiplier (l .multipliers)
 
 pub record LemmaOk (p : Program) (l : Lemma) : Type 0 where
   pub source : sourceAllowed p (l .source) ≡ true

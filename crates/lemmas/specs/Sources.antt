@@ -1,13 +1,14 @@
 -- What the readers of lemmas give, and what they work on. Only contracts of functions within the project cite these.
 --
--- theProgram             — the program that a list of words is; an empty one where it is none
+-- programOf, theProgram  — the program that a list of words is; an empty one where it is none
 -- Held                   — a list is a program, and this is its image
 -- sourceOf, shapeOf      — what a source offers; how many rows that are and which variables it sets
 -- slotOf, Slotted        — the place of a source in a table of 18; the table has this of every source
 -- goalBy, headBy, premisesBy — what a lemma's first two words may say, by the program's counts and what the source sets
+-- oneIf                  — 1 where a test holds, else 0
 -- literalCount, rowCount — how many literals a set has; how many rows a lemma has
 -- lemmaRead              — a lemma and where reading goes on
--- lemmasFrom             — where lemmas begin, put behind those that are stored
+-- noBegins, beginsFrom   — no lemmas, and why; where lemmas begin, put behind those that are stored
 -- listed                 — where each lemma of a list begins, or the refusal
 use mathlib.Core.Path.{_≡_}
 use mathlib.Core.Bool.{Bool, false, cond, _&&_, _||_, not}

@@ -23,7 +23,14 @@ abbrev pub read : List ℕ → Read Program
 read ws = program ws 0
 
 abbrev pub countsOf : Program → Counts
-countsOf p = record { variables = length (p .ranges); «start_rows» = length (p .start); predicates = length (p .predicates); actions = length (p .actions); forbidden = length (p .forbidden) }
+countsOf p =
+    record {
+      variables = length (p .ranges);
+      «start_rows» = length (p .start);
+      predicates = length (p .predicates);
+      actions = length (p .actions);
+      forbidden = length (p .forbidden);
+    }
 
 abbrev pub checked : Read Program → Checked
 checked (got p ws i) = Good (countsOf p)

@@ -9,7 +9,8 @@
 -- runsOff   — those ends, of the actions from j on that have a successor at a node with the literals m
 -- findingsAt, findingsFrom, findings — at node k; from node k on; of the graph
 -- nodeOf    — the node of a finding
--- stepWord, pathList — the path in its list: STEP words, then zeros up to 512, then what was there
+-- STEP, pathWords, pathList — the path in its list: STEP words, then zeros up to 512, then what was there
+-- stepsTo   — the actions from node 0 to a node
 use mathlib.Core.Bool.{Bool, true, false, cond, _||_}
 use mathlib.Core.List.{List, [], _∷_, _++_, map}
 use Prim.Native.Nat.{ℕ, zero, suc, _-_}
