@@ -12,6 +12,8 @@ LANGUAGE = {
     "→", "×", "=", ":", "λ", ".", "record", "do", "let", "in", "←", "_", "Type", "Unit", "⊥", "∷", "[]", ";", ",", "(", ")", "{", "}",
     "now", "⌜", "⌝", "where", "[", "]",
 }
+# Stands in a definition whose clauses are beyond the scripts, as proofs may be: an error where it is reached.
+UNREAD = "a clause that the scripts cannot read"
 TOKEN = re.compile(r'"[^"]*"|\[\]|[(){}\[\];,λ⌜⌝]|[^\s(){}\[\];,λ⌜⌝"]+')
 
 
@@ -29,10 +31,8 @@ class Definition:
     def __init__(self, file, name, kind):
         self.file, self.name, self.kind = file, name, kind
         self.public = False
-        self.line = 0
         self.lines = 0
         self.signature = 0
-        self.section = None
         self.types = set()
         self.body = set()
 
@@ -44,14 +44,12 @@ class File:
     """A file of specs/ or proofs/."""
 
     def __init__(self, path):
-        self.path = path
+        self.path, self.folder = path, path.parts[-2]
         self.head = []
         self.used = {}
         self.own = {}
         self.parts = {}
         self.definitions = []
-
-        self.folder = path.parts[-2]
 
     def __repr__(self):
         return str(self.path.relative_to(ROOT))
@@ -125,7 +123,12 @@ class Walk:
             elif t == "λ":
                 i += 1
                 while not ts[i].endswith("."):
-                    self.bind(ts[i])
+                    if ts[i] in "({":
+                        closed = i + ts[i:].index(")" if ts[i] == "(" else "}")
+                        self.run(ts[i:closed + 1])
+                        i = closed
+                    else:
+                        self.bind(ts[i])
                     i += 1
                 self.bind(ts[i].rstrip("."))
             elif t == "let" or after == "←":
@@ -141,7 +144,7 @@ class Walk:
 
 
 def chunks(lines):
-    """Lines with what is indented under each: (number, indent, [lines])."""
+    """The lines of code: number, indentation and text."""
     out = []
     for number, line in enumerate(lines, 1):
         code = without_comment(line)
@@ -169,10 +172,9 @@ class Crates:
         text = re.sub(r"//.*", "", path.read_text())
         uses = dict((t, c) for c, t in re.findall(r"^use (\w+)::(\w+);", text, re.M))
         for kind, name, tail in re.findall(r"\b(struct|enum) (\w+)(?:<'a>)?\s*((?:\{[^}]*\})|(?:\([^)]*\);))", text):
-            variants = re.findall(r"^\s*(\w+)(?:\([^)]*\))?,", tail, re.M) if kind == "enum" else []
             inside = " ".join(re.findall(r"\(([^)]*)\)", tail)) if kind == "enum" else tail
             named = {(uses.get(t, crate), t) for t in re.findall(r"\b[A-Z]\w*", inside)}
-            self.declared[(crate, name)] = (path, variants, named)
+            self.declared[(crate, name)] = named
 
     # ---- the files of specs/ and proofs/
     def file(self, key):
@@ -218,11 +220,11 @@ class Crates:
                 break
             f.head.append(line)
         got = chunks(lines)
-        self.read_block(f, got, 0, len(got), 0, None)
+        self.read_block(f, got, 0, len(got), 0, [])
 
     def read_block(self, f, got, i, end, indent, section):
         while i < end:
-            number, _, code = got[i]
+            code = got[i][2]
             j = i + 1
             while j < end and got[j][1] > indent:
                 j += 1
@@ -235,7 +237,7 @@ class Crates:
                 pass
             elif words[0] == "module":
                 if j > i + 1:
-                    self.read_block(f, got, i + 1, j, got[i + 1][1], (number, code))
+                    self.read_block(f, got, i + 1, j, got[i + 1][1], section + [code])
             elif plain[0] in ("data", "record"):
                 self.read_type(f, block, plain[0], section)
             else:
@@ -243,16 +245,16 @@ class Crates:
             i = j
 
     def bound(self, section):
-        """A walk that knows the parameters of the section."""
+        """A walk that knows the parameters of the sections around."""
         walk = Walk(())
-        if section:
-            walk.add(tokens(section[1])[2:])
+        for head in section:
+            walk.add(tokens(head)[2:])
         return walk
 
     def read_type(self, f, block, kind, section):
         head = tokens(block[0][2])
         at = head.index(kind) + 1
-        d = self.define(f, head[at], kind, block, section, "pub" in head[:at])
+        d = self.define(f, head[at], kind, block, "pub" in head[:at])
         walk = self.bound(section).add(head[at + 1:])
         for _, _, line in block[1:]:
             ts = [t for t in tokens(line) if t != "pub"]
@@ -272,9 +274,9 @@ class Crates:
                 d.body |= set(inner.found)
         d.body |= set(walk.found)
 
-    def define(self, f, name, kind, block, section, public):
+    def define(self, f, name, kind, block, public):
         d = Definition(f, name, kind)
-        d.public, d.line, d.lines, d.section = public, block[0][0], len(block), section
+        d.public, d.lines = public, len(block)
         f.own[name] = d
         mixfix(f.parts, name)
         f.definitions.append(d)
@@ -286,7 +288,7 @@ class Crates:
         ts = [t for i, t in enumerate(ts) if not (t in MODIFIERS and i < 3)]
         name = ts[0]
         if len(ts) > 1 and ts[1] == ":":
-            d = self.define(f, name, "definition", block, section, "pub" in marks)
+            d = self.define(f, name, "definition", block, "pub" in marks)
             d.signature = len(block)
             d.types = set(self.bound(section).add(ts[2:]).found)
             return
@@ -294,6 +296,12 @@ class Crates:
         if d is None or d.kind != "definition":
             raise Unknown(f"{f}:{block[0][0]}: a clause of what?")
         d.lines += len(block)
+        try:
+            self.read_body(f, d, ts, section)
+        except IndexError:
+            d.body.add(UNREAD)
+
+    def read_body(self, f, d, ts, section):
         at, depth = 1, 0
         while ts[at] != "=" or depth:
             depth += (ts[at] in "({") - (ts[at] in ")}")
@@ -395,7 +403,7 @@ class Crates:
                 continue
             seen.add(d)
             if isinstance(d, tuple):
-                stack += [("declared", *t) for t in self.declared[d[1:]][2] if t in self.declared]
+                stack += [("declared", *t) for t in self.declared[d[1:]] if t in self.declared]
             else:
                 stack += self.named_by(d)
         return seen
