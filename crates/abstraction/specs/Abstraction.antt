@@ -3,7 +3,7 @@
 -- sameLiteral, among, allAmong — a literal is one of some; all of some are
 -- lemmaApplies, applies — a lemma applies at an abstract state, for a source, a goal and an index; some lemma of the list does
 -- shown      — the facts that the list shows
--- successor  — formula (3) for an action; start, for the start
+-- successor, start — formula (3) for an action; for the start
 -- answer     — a monomial as the search has it: a node's word is its SETS word
 -- graph      — the graph, or that there are too many nodes
 use mathlib.Core.Bool.{Bool, true, false, _&&_, _||_}

@@ -20,7 +20,8 @@ use Rattle.grammar.specs.Encoding.{concat}
 use Rattle.grammar.specs.WellFormed.{Each, Few, WellFormed}
 use Rattle.grammar.proofs.ProgramLaws.{accepted as program-accepted}
 use Rattle.programs.specs.Calls.{read}
-use Rattle.programs.specs.Images.{loaded, places}
+use Rattle.programs.specs.Images.{loaded}
+use Rattle.programs.specs.Places.{places}
 use Rattle.programs.specs.declared.Loaded.{Loaded}
 use Rattle.programs.specs.declared.Status.the-variants.{Ready, Failed}
 use Rattle.programs.proofs.Places.{item-at, stored-at, length-places}

@@ -67,7 +67,8 @@ fn refuter(goal: usize, row: Row, new: [Row; 8]) -> Row
 // The largest value, over the ranges, of the sum of the lemma that begins at an index, by what its source offers. The words stand for the program
 // in the contract.
 pub fn weigh(words: &[u32], image: Image, source: Source, lemmas: &[u32], at: usize) -> Exact
-    requires { ⌜ Held (now words) image × IsLemma (theProgram (now words)) (now lemmas) at × (source ≡ sourceOf (theProgram (now words)) (bits 27 20 (getD (now lemmas) at 0))) ⌝ }
+    requires { ⌜ Held (now words) image × IsLemma (theProgram (now words)) (now lemmas) at
+        × (source ≡ sourceOf (theProgram (now words)) (bits 27 20 (getD (now lemmas) at 0))) ⌝ }
     ensures { λ r. ⌜ r ≡ exact (largestOf (theProgram (now (words .entry))) (theLemma (theProgram (now (words .entry))) (now (lemmas .entry)) at)) ⌝ }
 {
     let w = reader::word_at(lemmas, at);

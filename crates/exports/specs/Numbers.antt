@@ -33,7 +33,16 @@ use Rattle.exports.specs.declared.BnvJudge.{BnvJudge}
 use Rattle.exports.specs.declared.BnvSuccessor.{BnvSuccessor}
 
 abbrev pub checkOf : Checked → BnvCheck
-checkOf (Good n) = record { refusal = 0; value = 0; variables = n .variables; «start_rows» = n .«start_rows»; predicates = n .predicates; actions = n .actions; forbidden = n .forbidden }
+checkOf (Good n) =
+    record {
+      refusal = 0;
+      value = 0;
+      variables = n .variables;
+      «start_rows» = n .«start_rows»;
+      predicates = n .predicates;
+      actions = n .actions;
+      forbidden = n .forbidden;
+    }
 checkOf (NotGood r) = record { refusal = number r; value = value r; variables = 0; «start_rows» = 0; predicates = 0; actions = 0; forbidden = 0 }
 
 abbrev pub partOf : Part → BnvPart

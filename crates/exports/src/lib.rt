@@ -73,7 +73,8 @@ pub struct BnvPart {
 #[no_mangle]
 pub extern "C" fn bnv_action_part(words: &[u32], k: usize) -> BnvPart
     ensures answer { λ r. ⌜ r ≡ partOf (partPlace (now (words .entry)) k) ⌝ }
-    ensures part { λ r. ⌜ (take (r .length) (drop (r .start) (now (words .entry))) ≡ actionPart (now (words .entry)) k) × (r .start + r .length ≤ length (now (words .entry))) × (r .length ≡ length (actionPart (now (words .entry)) k)) ⌝ }
+    ensures part { λ r. ⌜ (take (r .length) (drop (r .start) (now (words .entry))) ≡ actionPart (now (words .entry)) k)
+        × (r .start + r .length ≤ length (now (words .entry))) × (r .length ≡ length (actionPart (now (words .entry)) k)) ⌝ }
 {
     let part = programs::part_place(words, k);
     BnvPart {

@@ -22,7 +22,8 @@ use Rattle.graph.specs.Graph.{graphOf}
 use Rattle.abstraction.specs.Abstraction.{graph}
 use Rattle.abstraction.specs.Claims.{claims}
 use Rattle.abstraction.proofs.Graphs.{same-graph}
-use Rattle.tables.specs.Tabled.{firstOff, theLemmas, Begun, Tabled}
+use Rattle.tables.specs.Tabled.{theLemmas, Begun, Tabled}
+use Rattle.tables.specs.Off.{firstOff}
 use Rattle.tables.specs.declared.Tables.{Tables}
 use Rattle.verdict.specs.Verdicts.{findings, pathList}
 use Rattle.judge.specs.Calls.{Judgement, verdict, pathTo, judgeGraph}

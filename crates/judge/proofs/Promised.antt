@@ -25,7 +25,7 @@ use Rattle.records.specs.Records.{graphWords, graphList}
 use Rattle.abstraction.specs.Abstraction.{graph}
 use Rattle.abstraction.specs.Faithful.{TooMany, Demand2}
 use Rattle.abstraction.proofs.Demand2.{demand2}
-use Rattle.tables.specs.Tabled.{firstOff}
+use Rattle.tables.specs.Off.{firstOff}
 use Rattle.verdict.specs.Verdicts.{Finding, Forbid, RunOff, findings, nodeOf, pathWords, pathList, stepsTo}
 use Rattle.safety.proofs.Safety.{safe}
 use Rattle.judge.specs.Calls.{Judgement, keep, verdict, pathTo, judgeGraph, judgeLemmas, judgeProgram, judge}

@@ -19,7 +19,7 @@ use Rattle.lemmas.specs.LemmaGrammar.{readLemmas}
 use Rattle.search.specs.Search.{Graph, Result, Done, Over, count, links}
 use Rattle.records.specs.Records.{graphWords, graphList}
 use Rattle.abstraction.specs.Abstraction.{graph}
-use Rattle.tables.specs.Tabled.{firstOff}
+use Rattle.tables.specs.Off.{firstOff}
 use Rattle.verdict.specs.Verdicts.{Finding, Forbid, RunOff, findings, nodeOf, stepsTo, pathWords, pathList}
 use Rattle.judge.specs.declared.Judged.{Judged}
 use Rattle.judge.specs.declared.Judged.the-variants.{MayForbid, MayRunOff, Refused}

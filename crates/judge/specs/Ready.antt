@@ -18,7 +18,7 @@ use Rattle.search.specs.Search.{Graph, Done, count, links}
 use Rattle.records.specs.Records.{graphList}
 use Rattle.abstraction.specs.Abstraction.{graph}
 use Rattle.abstraction.specs.Claims.{claims}
-use Rattle.tables.specs.Tabled.{firstOff}
+use Rattle.tables.specs.Off.{firstOff}
 use Rattle.judge.specs.Calls.{Judgement, keep, judgeGraph}
 use Rattle.judge.specs.declared.Judged.the-variants.{Refused}
 

@@ -3,7 +3,7 @@
 -- OfList, OfRead — a claim about the program and the lemmas that two lists of words are
 -- Drawn     — a list holds the records of a graph that is formula (3)'s, with these counts; 512 nodes are enough
 -- Walked    — a list holds the steps of a walk in a graph from node 0 to a node
--- Shown     — the first, of the words that were read; ShownPath, both
+-- Shown, ShownPath — the first, of the words that were read; both
 -- Demand2Of — of an answer: a verdict leaves the graph with its counts, and a finding the walk to its node; refusal 7 says that too many are reachable
 -- SafeOf    — demand 3, of the program that the words are
 use mathlib.Core.Path.{_≡_}

@@ -23,7 +23,7 @@ use Rattle.reader.specs.declared.Next.the-variants.{Refused as Stopped}
 use Rattle.reader.specs.Results.{nextOf}
 use Rattle.reader.proofs.Laws.{head-refused, head-taken, next-refused, next-at}
 use Rattle.reader.proofs.RowsLoop.{answer-refused, answer-at, left-is, left-within}
-use Rattle.programs.specs.Images.{places}
+use Rattle.programs.specs.Places.{places}
 use Rattle.programs.specs.declared.Status.the-variants.{Ready}
 use Rattle.programs.proofs.ManyLaws.{Loop, stopped, ended, turned, within-limit}
 use Rattle.lemmas.specs.Lemmas.{Lemma, rowsOf}

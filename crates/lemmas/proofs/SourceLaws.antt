@@ -17,7 +17,7 @@ use Rattle.actions.specs.declared.ActionRead.{ActionRead}
 use Rattle.actions.specs.NewRows.{keepRows, assigned}
 use Rattle.actions.specs.Results.{actionRead, noneSet, variablesSet}
 use Rattle.programs.specs.declared.Image.{Image}
-use Rattle.programs.specs.Images.{places, firstAction}
+use Rattle.programs.specs.Places.{places, firstAction}
 use Rattle.programs.proofs.Places.{noneAction, action-k, stored-at, length-places}
 use Rattle.runs.specs.Runs.{actionOf}
 use Rattle.lemmas.specs.Lemmas.{START}

@@ -27,7 +27,8 @@ use Rattle.reader.specs.declared.Next.the-variants.{Refused as Stopped}
 use Rattle.reader.specs.Results.{zeroRows}
 use Rattle.actions.specs.Results.{variablesSet, noneSet}
 use Rattle.programs.specs.Calls.{read}
-use Rattle.programs.specs.Images.{imageOf, places}
+use Rattle.programs.specs.Images.{imageOf}
+use Rattle.programs.specs.Places.{places}
 use Rattle.programs.specs.declared.Image.{Image}
 use Rattle.programs.specs.declared.Status.the-variants.{Ready, Failed}
 use Rattle.words.specs.LiteralSets.{has}

@@ -5,7 +5,8 @@ use Prim.Native.Nat.{ℕ, _+_, _≤_}
 use native.Mathlib.Omega.{arith}
 use lib.ListN.{length, take, drop, length-append, take-append-drop}
 use lib.Seq.{paste, take-at, drop-at, drop-drop, take-length, length-take-le}
-use Rattle.lines.specs.Text.{text, put, Put, field, line}
+use Rattle.lines.specs.Text.{text, decimal, field, line}
+use Rattle.lines.specs.Puts.{put, Put}
 
 pub copied : (out : List ℕ) (at : ℕ) (text : List ℕ) → paste out at text (length text) ≡ put out at text
 unfolding put
@@ -35,6 +36,11 @@ then-put {o} {p} {q} {at} {m} {n} {a} {b} x y room =
 pub length-line : (first : List ℕ) (n : ℕ) (second : List ℕ) (m : ℕ) → length (line first n second m) ≡ length (field first n) + length (field second m) + 1
 unfolding line
 length-line first n second m = length-append (field first n ++ field second m) (text "\n") ∙ rw (length-append (field first n) (field second m))
+
+-- another first text of the same length has the same room
+pub line-fits : (a b : List ℕ) (n : ℕ) (second : List ℕ) (m : ℕ) {room : ℕ} → length a ≡ length b → length (line a n second m) ≤ room → length (line b n second m) ≤ room
+line-fits a b n second m same h =
+    omega (arith, h, same, length-line a n second m, length-line b n second m, length-append a (decimal n), length-append b (decimal n))
 
 pub put-nothing : (o : List ℕ) (at : ℕ) → Put o at [] o at
 unfolding put

@@ -1,13 +1,10 @@
 -- Text and decimal numbers in a list of bytes.
 --
 -- text    — the bytes of a text, the codes of its characters
--- put     — a list with a text at a place; what lies before and behind stays
--- Put     — what writing a text at a place leaves, and the place behind it
 -- spelled — the decimal digits of a number, the highest first, in at most as many bytes as the first argument says
 -- decimal — the same, where 20 are enough for every number of 64 bits
 -- field   — a text, then a number
 -- line    — two fields and a newline
-use mathlib.Core.Path.{_≡_}
 use mathlib.Core.Bool.{cond}
 use mathlib.Core.List.{List, [], _∷_, _++_}
 use Prim.Native.Nat.{ℕ, zero, suc, _+_, _/_, _%_}
@@ -15,18 +12,10 @@ use Prim.Native.Char.{code}
 use Prim.Native.String.{String}
 use Prim.Native.String.{[] as ended, _∷_ as _then_}
 use lib.Dec.{ltb}
-use lib.ListN.{length, take, drop}
 
 abbrev pub text : String → List ℕ
 text ended = []
 text (c then s) = code c ∷ text s
-
-unfoldable pub put : List ℕ → ℕ → List ℕ → List ℕ
-put out at text = take at out ++ text ++ drop (at + length text) out
-
-pub record Put (before : List ℕ) (at : ℕ) (text after : List ℕ) (behind : ℕ) : Type 0 where
-  pub there : after ≡ put before at text
-  pub ends : behind ≡ at + length text
 
 unfoldable pub spelled : ℕ → ℕ → List ℕ
 spelled zero n = []

@@ -1,7 +1,8 @@
 // Text and decimal numbers, written at a place of a lent list of bytes.
 ghost use Prim.Native.Nat.{_+_, _≤_};
 ghost use lib.ListN.{length};
-ghost use Rattle.lines.specs.Text.{Put, decimal, field, line};
+ghost use Rattle.lines.specs.Text.{decimal, field, line};
+ghost use Rattle.lines.specs.Puts.{Put};
 
 // The text at the place; answers the place behind it.
 pub fn put_bytes(out: &mut [u8], at: usize, text: &[u8]) -> usize

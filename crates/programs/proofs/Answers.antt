@@ -23,7 +23,8 @@ use Rattle.programs.specs.declared.Loaded.{Loaded}
 use Rattle.programs.specs.declared.Status.the-variants.{Ready, Failed}
 use Rattle.programs.specs.declared.Checked.the-variants.{Good, Refused}
 use Rattle.programs.specs.Calls.{read, checked, partOf, actionPart, PartOf, placeIn, partPlace}
-use Rattle.programs.specs.Images.{imageOf, loaded, places, firstAction}
+use Rattle.programs.specs.Images.{imageOf, loaded}
+use Rattle.programs.specs.Places.{places, firstAction}
 use Rattle.programs.proofs.Places.{action-k, noneAction, stored-at, length-places}
 
 -- ---- Check

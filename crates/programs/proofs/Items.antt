@@ -29,7 +29,8 @@ use Rattle.actions.specs.declared.ActionRead.{ActionRead}
 use Rattle.actions.specs.Results.{actionRead}
 use Rattle.programs.specs.declared.Actions.{Actions}
 use Rattle.programs.specs.declared.Forbidden.{Forbidden}
-use Rattle.programs.specs.Images.{rangesFrom, zeroRanges, noRanges, places, actionsFrom, noActions, forbiddenFrom, noForbidden}
+use Rattle.programs.specs.Images.{rangesFrom, zeroRanges, noRanges, actionsFrom, noActions, forbiddenFrom, noForbidden}
+use Rattle.programs.specs.Places.{places}
 use Rattle.programs.proofs.ManyLaws.{Loop, stopped, ended, turned, within-limit}
 
 -- ---- ranges

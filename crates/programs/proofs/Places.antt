@@ -17,7 +17,7 @@ use Rattle.grammar.proofs.ReadingLaws.{Codec, concat-head}
 use Rattle.grammar.proofs.WordLaws.{literals-codec}
 use Rattle.grammar.proofs.ActionLaws.{action-codec}
 use Rattle.grammar.proofs.ProgramLaws.{Accepted, endWords, encode-nested}
-use Rattle.programs.specs.Images.{places, firstAction}
+use Rattle.programs.specs.Places.{places, firstAction}
 
 abbrev pub noneAction : Action
 noneAction = record { guards = []; sets = [] }

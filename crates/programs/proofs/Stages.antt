@@ -30,7 +30,8 @@ use Rattle.programs.specs.declared.Ranges.{Ranges}
 use Rattle.programs.specs.declared.Counted.{Counted}
 use Rattle.programs.specs.declared.Actions.{Actions}
 use Rattle.programs.specs.declared.Forbidden.{Forbidden}
-use Rattle.programs.specs.Images.{rangesFrom, zeroRanges, countedRead, places, actionsFrom, forbiddenFrom, Rest, rest, imageWith, restLoaded}
+use Rattle.programs.specs.Images.{rangesFrom, zeroRanges, countedRead, actionsFrom, forbiddenFrom, Rest, rest, imageWith, restLoaded}
+use Rattle.programs.specs.Places.{places}
 
 -- ---- what each reader's answer says
 ranges-next : (m : Read (List Range)) → rangesFrom zeroRanges 0 0 m .next ≡ nextOf m

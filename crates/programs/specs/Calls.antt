@@ -13,7 +13,7 @@ use Rattle.grammar.specs.Reading.{Read, got, refused}
 use Rattle.grammar.specs.Programs.{Program}
 use Rattle.grammar.specs.Grammar.{program}
 use Rattle.grammar.specs.Encoding.{encodeAction}
-use Rattle.programs.specs.Images.{places, firstAction}
+use Rattle.programs.specs.Places.{places, firstAction}
 use Rattle.programs.specs.declared.Counts.{Counts}
 use Rattle.programs.specs.declared.Part.{Part}
 use Rattle.programs.specs.declared.Checked.{Checked}
@@ -23,7 +23,14 @@ abbrev pub read : List ℕ → Read Program
 read ws = program ws 0
 
 abbrev pub countsOf : Program → Counts
-countsOf p = record { variables = length (p .ranges); «start_rows» = length (p .start); predicates = length (p .predicates); actions = length (p .actions); forbidden = length (p .forbidden) }
+countsOf p =
+    record {
+      variables = length (p .ranges);
+      «start_rows» = length (p .start);
+      predicates = length (p .predicates);
+      actions = length (p .actions);
+      forbidden = length (p .forbidden);
+    }
 
 abbrev pub checked : Read Program → Checked
 checked (got p ws i) = Good (countsOf p)

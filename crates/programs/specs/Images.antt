@@ -1,20 +1,18 @@
 -- What the readers of a program's parts give, and the image of a program that the calls work on. Only contracts of functions within the
--- project cite these, but for `places` and `firstAction`.
+-- project cite these.
 --
 -- zeroRanges, noRanges, rangesFrom      — ranges
 -- countedRead                           — rows after INIT or PRED
--- places                                — where items begin
 -- noActions, actionsFrom                — where actions begin
 -- noForbidden, forbiddenFrom            — forbidden combinations
--- firstAction                           — the index of a program's first action
 -- imageOf, noImage, loaded              — the image of a program
 -- placeOf                               — the index where reading goes on
 -- Rest, rest, imageWith, restLoaded     — what follows the predicates, and the image with it
-use mathlib.Core.List.{List, [], _∷_, _++_}
+use mathlib.Core.List.{List}
 use Prim.Native.Nat.{ℕ, _+_}
 use lib.ListN.{length, replicate}
 use lib.Seq.{sets}
-use Rattle.words.specs.Words.{noLiterals, INIT, PRED, ACTION, SETS}
+use Rattle.words.specs.Words.{noLiterals, ACTION, SETS}
 use Rattle.words.specs.declared.Refusal.{Refusal}
 use Rattle.words.specs.declared.Literals.{Literals}
 use Rattle.rows.specs.Rows.{zeroRange}
@@ -23,11 +21,12 @@ use Rattle.rows.specs.declared.Row.{Row}
 use Rattle.grammar.specs.Reading.{Read, Reader, got, refused, pure, _>>=_, many}
 use Rattle.grammar.specs.Grammar.{action, combination, end}
 use Rattle.grammar.specs.Programs.{Action, Program}
-use Rattle.grammar.specs.Encoding.{concat, encodeRange, encodeRows, encodeAction}
+use Rattle.grammar.specs.Encoding.{encodeAction}
 use Rattle.reader.specs.declared.Next.{Next}
 use Rattle.reader.specs.declared.Next.the-variants.{At}
 use Rattle.reader.specs.declared.Next.the-variants.{Refused as Stopped}
 use Rattle.reader.specs.Results.{zeroRows}
+use Rattle.programs.specs.Places.{places, firstAction}
 use Rattle.programs.specs.declared.Ranges.{Ranges}
 use Rattle.programs.specs.declared.Counted.{Counted}
 use Rattle.programs.specs.declared.Actions.{Actions}
@@ -51,12 +50,6 @@ abbrev pub countedRead : Read (List Row) → Counted
 countedRead (got rs ws i) = record { rows = sets zeroRows 0 rs; count = length rs; next = At i }
 countedRead (refused x) = record { rows = zeroRows; count = 0; next = Stopped x }
 
--- where each of some items begins, the first one at i, by the words of each
-module _ {A : Type 0} (e : A → List ℕ) where
-  unfoldable pub places : ℕ → List A → List ℕ
-  places i [] = []
-  places i (a ∷ rest) = i ∷ places (i + length (e a)) rest
-
 abbrev pub noActions : Refusal → Actions
 noActions x = record { «begin_at» = replicate 16 0; count = 0; next = Stopped x }
 
@@ -70,10 +63,6 @@ noForbidden x = record { literals = replicate 8 noLiterals; count = 0; next = St
 abbrev pub forbiddenFrom : List Literals → ℕ → ℕ → Read (List Literals) → Forbidden
 forbiddenFrom ls k i (got xs ws j) = record { literals = sets ls k xs; count = k + length xs; next = At j }
 forbiddenFrom ls k i (refused x) = noForbidden x
-
--- the index of a program's first action
-abbrev pub firstAction : Program → ℕ
-firstAction p = length (concat encodeRange (p .ranges) ++ encodeRows INIT (p .start) ++ encodeRows PRED (p .predicates))
 
 abbrev pub imageOf : Program → Image
 imageOf p =
@@ -147,5 +136,6 @@ imageWith gs start preds places actions literals forbidden =
 -- the image with what was read before and what follows
 abbrev pub restLoaded : Ranges → Counted → Counted → Read Rest → ℕ → Loaded
 restLoaded gs start preds (got r ws i) at =
-    imageWith gs start preds (sets (replicate 16 0) 0 (places encodeAction at (r .actions))) (length (r .actions)) (sets (replicate 8 noLiterals) 0 (r .forbidden)) (length (r .forbidden))
+    imageWith gs start preds (sets (replicate 16 0) 0 (places encodeAction at (r .actions))) (length (r .actions))
+    (sets (replicate 8 noLiterals) 0 (r .forbidden)) (length (r .forbidden))
 restLoaded gs start preds (refused x) at = record { status = Failed x; image = noImage }

@@ -12,7 +12,8 @@ use Rattle.judge.specs.Calls.{judge}
 use Rattle.judge.specs.declared.Judged.{Judged}
 use Rattle.little.specs.LittleEndian.{wordsOf}
 use Rattle.little.proofs.Laws.{length-words}
-use Rattle.lines.specs.Text.{text, Put}
+use Rattle.lines.specs.Text.{text}
+use Rattle.lines.specs.Puts.{Put}
 use Rattle.lines.proofs.Puts.{at-front}
 use Rattle.report.specs.Report.{mostBytes, linesRoom, logicLength, wordsIn, zeros, judged, answerLines, judgementLines, showLines, linesOf, shown}
 

@@ -24,7 +24,8 @@ use Rattle.programs.specs.declared.Image.{Image}
 use Rattle.programs.specs.declared.Loaded.{Loaded}
 use Rattle.programs.specs.declared.Status.the-variants.{Ready, Failed}
 use Rattle.programs.specs.Calls.{read}
-use Rattle.programs.specs.Images.{imageOf, loaded, places, firstAction, zeroRanges}
+use Rattle.programs.specs.Images.{imageOf, loaded, zeroRanges}
+use Rattle.programs.specs.Places.{places, firstAction}
 use Rattle.programs.proofs.Places.{action-k, stored-at, length-places}
 use Rattle.runs.specs.declared.Stepped.the-variants.{Refused}
 use Rattle.runs.specs.Runs.{lowestOff, actionOf, step}

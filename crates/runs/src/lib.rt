@@ -138,7 +138,8 @@ fn write(state: &mut [i32], x: [i64; 8])
 
 // An action's guard rows and each variable's row, tried on a state whose values are `old`.
 fn take_action(ranges: [Range; 8], action: ActionRead, old: [i64; 8], state: &mut [i32]) -> Stepped
-    requires { ⌜ (length (now state) ≤ 8) × (action .guards ≤ 14) × SmallRows (action .guard) × SmallRows (action .rows) × small maxState old × smallRanges ranges ⌝ }
+    requires { ⌜ (length (now state) ≤ 8) × (action .guards ≤ 14) × SmallRows (action .guard) × SmallRows (action .rows) × small maxState old
+        × smallRanges ranges ⌝ }
     ensures { λ r. ⌜ (r ≡ tried ranges action old (now (state .entry)) .answer) × (now (state .exit) ≡ tried ranges action old (now (state .entry)) .state) ⌝ }
 {
     let guards = action.guards;
@@ -159,7 +160,8 @@ fn take_action(ranges: [Range; 8], action: ActionRead, old: [i64; 8], state: &mu
 
 // Step: action k of a program, taken on a lent state. Only `Moved` writes.
 pub fn step(words: &[u32], k: usize, state: &mut [i32]) -> Stepped
-    ensures { λ r. ⌜ (r ≡ stepCall (now (words .entry)) k (now (state .entry)) .answer) × (now (state .exit) ≡ stepCall (now (words .entry)) k (now (state .entry)) .state) ⌝ }
+    ensures { λ r. ⌜ (r ≡ stepCall (now (words .entry)) k (now (state .entry)) .answer)
+        × (now (state .exit) ≡ stepCall (now (words .entry)) k (now (state .entry)) .state) ⌝ }
 {
     let loaded = programs::load(words);
     let status = loaded.status;

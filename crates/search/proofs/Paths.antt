@@ -3,10 +3,10 @@ use Prim.Native.Nat.{ℕ, zero, suc, _<_, _≤_}
 use native.Mathlib.Omega.{arith}
 use mathlib.Core.Path.{_≡_, sym, ap, _∙_}
 use mathlib.Core.List.{List, [], _∷_, _++_, reverse, reverse-cons}
-use Rattle.search.specs.Search.{Answer, To, Origin, Root, From, Graph, count, origin, edge, numbered}
+use Rattle.search.specs.Search.{Answer, To, Origin, Root, From, Graph, count, origin, edge}
 use Rattle.search.specs.Paths.{Walk, stand, go, hop, back, path}
 use Rattle.search.proofs.Sound.{Comes}
-use Rattle.search.proofs.Theorem.{Whole}
+use Rattle.search.proofs.Theorem.{numbered, Whole}
 
 module _ (a : ℕ) (g : Graph) where
   -- one action more

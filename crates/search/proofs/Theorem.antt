@@ -12,7 +12,7 @@ use mathlib.Core.Path.{_≡_, refl, sym, _∙_}
 use mathlib.Core.Logic.{_↔_}
 use mathlib.Core.List.{List}
 use lib.ListN.{length}
-use Rattle.search.specs.Search.{Answer, To, None, Graph, Done, Over, seek, explored, count, nodeWord, origin, edge, numbered}
+use Rattle.search.specs.Search.{Answer, To, None, Graph, Done, Over, seek, explored, count, nodeWord, origin, edge}
 use Rattle.search.proofs.Reach.{Reach, first, onward, Distinct, AllOf, Many}
 use Rattle.search.proofs.Count.{row-below, seek-found, seek-le, no-more}
 use Rattle.search.proofs.Numbered.{Earlier}
@@ -23,6 +23,11 @@ to-inj e = cc
 
 pub not-none : {v : ℕ} → To v ≡ None → ⊥
 not-none {v} e = let z : _≡_ {A = ℕ} 0 1 = cc in omega arith
+
+-- an answer in words as an answer in node numbers
+abbrev pub numbered : List ℕ → Answer → Answer
+numbered ws (To w) = To (seek w ws)
+numbered ws None = None
 
 -- what is known of the graph that the exploration ends with
 pub record Whole (start : Answer) (next : ℕ → ℕ → Answer) (a limit : ℕ) (g : Graph) : Type 0 where

@@ -7,7 +7,6 @@
 -- pickN, seek     — the first place of a word among others, or their count
 -- count, nodeWord, origin, edge — the nodes of a graph, and what belongs to one
 -- linksIn, links  — the number of edges that lead to a node
--- numbered        — an answer in words as an answer in node numbers
 -- empty, stored, linked     — no node; one node more; one edge more
 -- placed, rooted, begun, answered — the graph with a word looked up; with node 0; at the start; after one action's turn, given its answer
 -- acted, turns    — after one action's turn; after the first j actions of node k
@@ -62,10 +61,6 @@ linksIn (None ∷ es) = linksIn es
 
 abbrev pub links : Graph → ℕ
 links g = linksIn (g .edges)
-
-abbrev pub numbered : List ℕ → Answer → Answer
-numbered ws (To w) = To (seek w ws)
-numbered ws None = None
 
 abbrev pub empty : Graph
 empty = record { words = []; origins = []; edges = [] }

@@ -25,7 +25,8 @@ use Rattle.gather.specs.Gathering.{placeOf, entryOf, entries}
 use Rattle.gather.proofs.Tables.{entries-kept, lemmas-push}
 use Rattle.gather.specs.Gathering.{Claim}
 use Rattle.abstraction.specs.Claims.{claimOf, withClaim, claims}
-use Rattle.tables.specs.Tabled.{firstOff, Begun, Tabled}
+use Rattle.tables.specs.Tabled.{Begun, Tabled}
+use Rattle.tables.specs.Off.{firstOff}
 
 -- ---- a sum that fits, and one that does not
 value-off : {P : Type 0} {z : ℤ} → Off ≡ Value z → P

@@ -1,32 +1,26 @@
--- The lemmas of a list weighed one after the other, and the tables of the accepted ones.
+-- The lemmas of a list weighed one after the other, and the tables of the accepted ones. Only contracts of functions within the project cite these.
 --
--- firstOff   — the lowest lemma whose sum leaves signed 64 bits; the number of lemmas if there is none
--- theLemmas  — the lemmas that a list of words is; none where it is no lemma list
--- Begun      — a list is these lemmas, and where each begins
--- Tabled     — the tables of these lemmas
+-- lemmasOr, theLemmas — the lemmas that a list of words is; none where it is no lemma list
+-- Begun               — a list is these lemmas, and where each begins
+-- Tabled              — the tables of these lemmas
 use mathlib.Core.Path.{_≡_}
-use mathlib.Core.Bool.{cond}
-use mathlib.Core.List.{List, [], _∷_, map}
-use Prim.Native.Nat.{ℕ, suc, _≤_, _<_}
+use mathlib.Core.List.{List, [], map}
+use Prim.Native.Nat.{ℕ, _≤_, _<_}
 use lib.ListN.{length, getD}
 use Rattle.rows.specs.Rows.{in64}
 use Rattle.words.specs.Limits.{mostLemmas}
 use Rattle.grammar.specs.Reading.{Read, got, refused}
 use Rattle.grammar.specs.Programs.{Program}
 use Rattle.grammar.specs.WellFormed.{Few}
-use Rattle.lemmas.specs.Lemmas.{Lemma, largestOf}
+use Rattle.lemmas.specs.Lemmas.{Lemma}
 use Rattle.lemmas.specs.LemmaGrammar.{readLemmas, LemmaOk}
 use Rattle.ask.specs.Calls.{noLemma}
 use Rattle.ask.specs.Weighing.{theLemma, IsLemma}
 use Rattle.gather.specs.Gathering.{entryOf, entries}
 use Rattle.abstraction.specs.Claims.{claims}
+use Rattle.tables.specs.Off.{firstOff}
 use Rattle.tables.specs.declared.Tables.{Tables}
 
-unfoldable pub firstOff : Program → List Lemma → ℕ
-firstOff p [] = 0
-firstOff p (l ∷ ls) = cond (in64 (largestOf p l)) (suc (firstOff p ls)) 0
-
--- ---- only contracts of functions within the project cite these
 abbrev pub lemmasOr : Read (List Lemma) → List Lemma
 lemmasOr (got ls ws i) = ls
 lemmasOr (refused r) = []

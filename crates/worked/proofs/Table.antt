@@ -33,7 +33,7 @@ use Rattle.search.specs.Paths.{back}
 use Rattle.records.specs.Records.{graphWords, edgeRow, recordsOf}
 use Rattle.words.specs.LiteralSets.{literalsIn, setOf}
 use Rattle.abstraction.specs.Abstraction.{among, allAmong, applies}
-use Rattle.tables.specs.Tabled.{firstOff}
+use Rattle.tables.specs.Off.{firstOff}
 use Rattle.verdict.specs.Verdicts.{pathWords, contradicted, forbids, runsOff, findingsFrom}
 use Rattle.verdict.specs.Verdicts.{ends as rangeEnds}
 use Rattle.judge.specs.Calls.{Judgement, judgeProgram, judge}

@@ -1,4 +1,6 @@
-use native.Mathlib.Omega.{arith}
+use mathlib.Core.Path.{refl}
+use Rattle.lines.specs.Text.{text}
+use Rattle.lines.proofs.Puts.{line-fits}
 use borrow.Author.Needs.{needs}
 use Rattle.report.proofs.put_refused.Statement.{statement}
 use Rattle.report.proofs.put_refused.Tie as tie
@@ -19,7 +21,9 @@ slice-aggregate-put-line-2 : tie.Need-slice-aggregate-put-line-2
 slice-aggregate-put-line-2 c = search needs
 
 put-line-requires : tie.Need-put-line-requires
-put-line-requires c κs = rw (c .before .before .before .before .number-of .ensures, c .before .before .before .value-of .ensures) (omega arith)
+put-line-requires c κs =
+    rw (c .before .before .before .before .number-of .ensures, c .before .before .before .value-of .ensures)
+    (line-fits (text "REFUSED ") _ _ _ _ refl (c .before .before .before .before .before .before .pre))
 
 same-length : tie.Need-same-length
 same-length c = search needs

@@ -4,10 +4,10 @@ use native.Mathlib.Omega.{arith}
 use lib.ListN.{length}
 use borrow.Author.Tests.{lt-ltb, le-ltb, le-leb, lt-leb}
 use borrow.Author.Needs.{needs}
-use Rattle.records.specs.Records.{recordPlace}
-use Rattle.records.proofs.Places.{most}
+use Rattle.records.specs.Records.{stride, recordPlace}
+use Rattle.records.proofs.Places.{most, row-within}
 use Rattle.view.specs.Views.{viewed}
-use Rattle.view.proofs.Reading.{size-is, within, word-there}
+use Rattle.view.proofs.Reading.{size-is, word-there}
 use Rattle.view.proofs.successor_at.Statement.{statement}
 use Rattle.view.proofs.successor_at.Tie as tie
 
@@ -62,7 +62,7 @@ shared-slice-read-edge-of c =
     let p = t .before in
     let a = p .before .before .before .before .args in
     let long : recordPlace (a .actions) (a .nodes) ≤ length (a .graph .now) = rw (size-is (a .nodes) (a .actions) _ (p .record-place .ensures .0)) at (t .if3 .left) in
-    rw (c .before .edge-place .ensures .0) (within (a .graph .now) (a .nodes) (a .actions) (a .node) (a .action) long (omega arith) (omega arith))
+    omega (arith, long, c .before .edge-place .ensures .0, row-within (a .node) (a .nodes) (stride (a .actions)) (omega arith))
 
 edge-of-requires : tie.Need-edge-of-requires
 edge-of-requires c κs = search needs
