@@ -9,8 +9,7 @@ ghost use Rattle.rows.specs.declared.Exact.the-variants.{Value};
 ghost use Rattle.ask.specs.declared.Asked.the-variants.{Accepted};
 ghost use Rattle.rows.specs.Bounds.{SmallRange, smallRanges, Read, noRow};
 ghost use Rattle.programs.specs.Calls.{read};
-ghost use Rattle.sums.specs.Sums.{afterwards};
-ghost use Rattle.sums.specs.Fits.{After};
+ghost use Rattle.sums.specs.Fits.{Single};
 ghost use Rattle.lemmas.specs.Lemmas.{largestOf};
 ghost use Rattle.lemmas.specs.Sources.{theProgram, Held, sourceOf};
 ghost use Rattle.ask.specs.Calls.{weighed, ask, TrueIn};
@@ -52,16 +51,12 @@ fn goal_row(ranges: [Range; 8], preds: [Row; 14], goal: usize, index: usize) -> 
     end_row(range, goal == 3, index)
 }
 
-// The negated goal afterwards; of goal 2 the predicate itself.
-fn refuter(goal: usize, row: Row, new: [Row; 8]) -> Row
-    requires { ⌜ Read row × ((i : ℕ) → Read (getD new i noRow)) ⌝ }
-    ensures { λ r. ⌜ (r ≡ afterwards new (refuted goal row)) × After r ⌝ }
+// The negated goal; of goal 2 the predicate itself.
+fn refuter(goal: usize, row: Row) -> Row
+    requires { ⌜ Read row ⌝ }
+    ensures { λ r. ⌜ (r ≡ refuted goal row) × Single r ⌝ }
 {
-    if goal == 2 {
-        sums::after(row, new)
-    } else {
-        sums::after(rows::negate(row), new)
-    }
+    if goal == 2 { row } else { rows::negate(row) }
 }
 
 // The largest value, over the ranges, of the sum of the lemma that begins at an index, by what its source offers. The words stand for the program
@@ -78,7 +73,7 @@ pub fn weigh(words: &[u32], image: Image, source: Source, lemmas: &[u32], at: us
     let preds = image.pred;
     let new = source.new;
     let row = goal_row(ranges, preds, goal, words::index(w));
-    let q = refuter(goal, row, new);
+    let q = sums::after(refuter(goal, row), new);
     let rows = source.rows;
     let known = image.preds;
     let count = source.count;
