@@ -1,5 +1,5 @@
 -- What the readers of a program's parts give, and the image of a program that the calls work on. Only contracts of functions within the
--- project cite these, but for `places` and `firstAction`.
+-- project cite these.
 --
 -- zeroRanges, noRanges, rangesFrom      — ranges
 -- countedRead                           — rows after INIT or PRED
@@ -147,5 +147,6 @@ imageWith gs start preds places actions literals forbidden =
 -- the image with what was read before and what follows
 abbrev pub restLoaded : Ranges → Counted → Counted → Read Rest → ℕ → Loaded
 restLoaded gs start preds (got r ws i) at =
-    imageWith gs start preds (sets (replicate 16 0) 0 (places encodeAction at (r .actions))) (length (r .actions)) (sets (replicate 8 noLiterals) 0 (r .forbidden)) (length (r .forbidden))
+    imageWith gs start preds (sets (replicate 16 0) 0 (places encodeAction at (r .actions))) (length (r .actions))
+    (sets (replicate 8 noLiterals) 0 (r .forbidden)) (length (r .forbidden))
 restLoaded gs start preds (refused x) at = record { status = Failed x; image = noImage }
