@@ -156,7 +156,7 @@ HOUSE = [
 ]
 
 # The worked table of the proofs has the same words.
-SHOWS = (pathlib.Path(__file__).parent.parent / "crates/worked/proofs/Shows.antt").read_text()
+SHOWS = (pathlib.Path(__file__).parent.parent / "crates/worked/specs/Shows.antt").read_text()
 for name, words in (("fade", FADE), ("house", HOUSE)):
     text = re.search(rf"^{name} =\n((?:    .*\n)*)", SHOWS, re.M).group(1)
     assert words == [int(word, 16) for word in re.findall(r"0x[0-9A-F]{8}", text)], name

@@ -2,7 +2,7 @@
 use mathlib.Core.Path.{_≡_, refl, sym, ap, _∙_}
 use mathlib.Core.Bool.{true}
 use mathlib.Core.List.{List, [], map}
-use Prim.Native.Nat.{ℕ, _+_, _-_, _≤_, _<_}
+use Prim.Native.Nat.{ℕ, _+_, _-_, _*_, _≤_, _<_}
 use native.Mathlib.Omega.{arith}
 use lib.ListN.{length, getD, take, drop, length-map, length-drop, List·getD-eq-default}
 use lib.Seq.{length-take-le}
@@ -22,10 +22,11 @@ use Rattle.programs.specs.declared.Part.{Part}
 use Rattle.programs.specs.declared.Loaded.{Loaded}
 use Rattle.programs.specs.declared.Status.the-variants.{Ready, Failed}
 use Rattle.programs.specs.declared.Checked.the-variants.{Good, Refused}
-use Rattle.programs.specs.Calls.{read, checked, partOf, actionPart, PartOf, placeIn, partPlace}
+use Rattle.programs.specs.Calls.{read, checked, parts, actionsAt, partOf, actionPart, PartOf, placeIn, partPlace, StandsAt, wordAt}
 use Rattle.programs.specs.Images.{imageOf, loaded}
 use Rattle.programs.specs.Places.{places, firstAction}
 use Rattle.programs.proofs.Places.{action-k, noneAction, stored-at, length-places}
+use Rattle.programs.proofs.ActionParts.{parts-are, places-are, part-is}
 
 -- ---- Check
 pub check-refused : (m : Read Program) {x : Loaded} {r : Refusal} → x ≡ loaded m → x .status ≡ Failed r → Refused r ≡ checked m
@@ -41,11 +42,12 @@ check-good (refused q) e h = let z : _≡_ {A = ℕ} 0 1 = cc (ap (λ (y : Loade
 pub part-of : (ws : List ℕ) (at n : ℕ) → at + n ≤ length ws → PartOf ws (take n (drop at ws))
 part-of ws at n h = (at, ap (λ (m : ℕ). take m (drop at ws)) (sym (length-take-le n (drop at ws) (simp length-drop (omega arith)))))
 
-pub no-action : (m : Read Program) (k : ℕ) {x : Loaded} → x ≡ loaded m → x .image .actions ≤ k → [] ≡ partOf m k
-no-action (got p us i) k e h =
+no-action : (ws : List ℕ) (m : Read Program) (k : ℕ) {x : Loaded} → read ws ≡ m → x ≡ loaded m → x .image .actions ≤ k → [] ≡ partOf m ws k
+no-action ws (got p us i) k q e h =
     let n = ap (λ (y : Loaded). y .image .actions) e in
-    sym (List·getD-eq-default (map encodeAction (p .actions)) [] (rw (length-map (p .actions) encodeAction) (omega arith)))
-no-action (refused q) k e h = refl
+    let l = ap length (parts-are ws p (accepted ws p us i q)) ∙ length-map (p .actions) encodeAction in
+    sym (List·getD-eq-default (parts ws) [] (omega arith))
+no-action ws (refused r) k q e h = refl
 
 -- an action's place in the image is where its words begin
 stored-place : (p : Program) (k : ℕ) → length (p .actions) ≤ 16 → k < length (p .actions) → getD (imageOf p .«action_at») k 0 ≡ getD (places encodeAction (firstAction p) (p .actions)) k 0
@@ -90,10 +92,10 @@ found-in ws k p ok h =
 pub found : (ws : List ℕ) (k : ℕ) {x : Loaded} → x ≡ loaded (read ws) → k < x .image .actions → Found ws k (x .image) (actionPart ws k)
 found ws k {x} e h = go (read ws) refl e
   where
-    go : (m : Read Program) → read ws ≡ m → x ≡ loaded m → Found ws k (x .image) (partOf (read ws) k)
+    go : (m : Read Program) → read ws ≡ m → x ≡ loaded m → Found ws k (x .image) (partOf (read ws) ws k)
     go (got p us i) q f =
         let n = ap (λ (y : Loaded). y .image .actions) f in
-        rw (ap (λ (y : Loaded). y .image) f, q) (found-in ws k p (accepted ws p us i q) (omega arith))
+        rw (ap (λ (y : Loaded). y .image) f, part-is ws p q k) (found-in ws k p (accepted ws p us i q) (omega arith))
     go (refused r) q f = let n = ap (λ (y : Loaded). y .image .actions) f in absurd (omega arith)
 
 -- ---- where the words of an action stand
@@ -101,31 +103,32 @@ is-part : (x : Part) {at n : ℕ} → at ≡ x .start → n ≡ x .length → re
 is-part x e f = rw (e, f)
 
 abbrev Placed : List ℕ → ℕ → Part → Type 0
-Placed ws k x = (x ≡ partPlace ws k) × ((x .start + x .length ≤ length ws) × (take (x .length) (drop (x .start) ws) ≡ actionPart ws k))
+Placed ws k x = (x ≡ partPlace ws k) × StandsAt ws x (actionPart ws k)
 
-place-length : (m : Read Program) (k : ℕ) → placeIn m k .length ≡ length (partOf m k)
-place-length (got p us i) k = refl
-place-length (refused q) k = refl
+place-length : (m : Read Program) (ws : List ℕ) (k : ℕ) → placeIn m ws k .length ≡ length (partOf m ws k)
+place-length (got p us i) ws k = refl
+place-length (refused r) ws k = refl
 
-no-start : (m : Read Program) (k : ℕ) {x : Loaded} → x ≡ loaded m → x .image .actions ≤ k → 0 ≡ placeIn m k .start
-no-start (got p us i) k e h =
+no-start : (ws : List ℕ) (m : Read Program) (k : ℕ) {x : Loaded} → read ws ≡ m → x ≡ loaded m → x .image .actions ≤ k → 0 ≡ placeIn m ws k .start
+no-start ws (got p us i) k q e h =
     let n = ap (λ (y : Loaded). y .image .actions) e in
-    let l = length-places encodeAction (firstAction p) (p .actions) in
-    sym (List·getD-eq-default (places encodeAction (firstAction p) (p .actions)) 0 (omega arith))
-no-start (refused q) k e h = refl
+    let l = ap length (places-are ws p (accepted ws p us i q)) ∙ length-places encodeAction (firstAction p) (p .actions) in
+    sym (List·getD-eq-default (actionsAt 0 ws) 0 (omega arith))
+no-start ws (refused r) k q e h = refl
 
 pub no-place : (ws : List ℕ) (k : ℕ) {x : Loaded} → x ≡ loaded (read ws) → x .image .actions ≤ k → Placed ws k (record { start = 0; length = 0 })
 no-place ws k e h =
-    let none = no-action (read ws) k e h in
-    (is-part (partPlace ws k) (no-start (read ws) k e h) (ap length none ∙ sym (place-length (read ws) k)), (omega arith, none))
+    let none = no-action ws (read ws) k refl e h in
+    (is-part (partPlace ws k) (no-start ws (read ws) k refl e h) (ap length none ∙ sym (place-length (read ws) ws k)), (omega arith, none))
 
 start-found : (ws : List ℕ) (k : ℕ) {x : Loaded} → x ≡ loaded (read ws) → k < x .image .actions → getD (x .image .«action_at») k 0 ≡ partPlace ws k .start
 start-found ws k {x} e h = go (read ws) refl e
   where
-    go : (m : Read Program) → read ws ≡ m → x ≡ loaded m → getD (x .image .«action_at») k 0 ≡ placeIn m k .start
+    go : (m : Read Program) → read ws ≡ m → x ≡ loaded m → getD (x .image .«action_at») k 0 ≡ placeIn m ws k .start
     go (got p us i) q f =
         let n = ap (λ (y : Loaded). y .image .actions) f in
-        ap (λ (y : Loaded). getD (y .image .«action_at») k 0) f ∙ stored-place p k (accepted ws p us i q .good .actions .few) (omega arith)
+        let ok = accepted ws p us i q in
+        ap (λ (y : Loaded). getD (y .image .«action_at») k 0) f ∙ stored-place p k (ok .good .actions .few) (omega arith) ∙ ap (λ (ns : List ℕ). getD ns k 0) (sym (places-are ws p ok))
     go (refused r) q f = let n = ap (λ (y : Loaded). y .image .actions) f in absurd (omega arith)
 
 pub place-found : (ws : List ℕ) (k : ℕ) {x : Loaded} {j : ℕ} → x ≡ loaded (read ws) → k < x .image .actions → let at = getD (x .image .«action_at») k 0 in
@@ -133,4 +136,8 @@ pub place-found : (ws : List ℕ) (k : ℕ) {x : Loaded} {j : ℕ} → x ≡ loa
 place-found ws k {x} {j} e h (low, high, words) =
     let at = getD (x .image .«action_at») k 0 in
     let long : length (take (j - at) (drop at ws)) ≡ j - at = length-take-le (j - at) (drop at ws) (simp length-drop (omega arith)) in
-    (is-part (partPlace ws k) (start-found ws k e h) (sym long ∙ ap length words ∙ sym (place-length (read ws) k)), (omega arith, words))
+    (is-part (partPlace ws k) (start-found ws k e h) (sym long ∙ ap length words ∙ sym (place-length (read ws) ws k)), (omega arith, words))
+
+-- the pointer to word n of a list, by its byte
+pub placed-at : (list : ℕ × ℕ) (n : ℕ) {byte : ℕ} → byte ≡ list .1 + 4 * n → (list .0, byte) ≡ wordAt list n
+placed-at list n h = λ i. (list .0, h i)

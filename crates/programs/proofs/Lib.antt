@@ -4,4 +4,5 @@ pub mod Parts
 pub mod Stages
 pub mod Whole
 pub mod Places
+pub mod ActionParts
 pub mod Answers

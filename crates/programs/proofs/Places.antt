@@ -57,6 +57,16 @@ module _ {A : Type 0} {item : Reader A} {e : A → List ℕ} {P : A → Type 0} 
       let next : drop (i + length (e x)) ws ≡ rest = sym (drop-drop (length (e x)) i ws) ∙ ap (drop (length (e x))) here ∙ drop-append-seam (e x) rest in
       item-at (i + length (e x)) xs k next (p .1) (le-of-suc-le-suc l)
 
+-- the words before a program's actions and behind them
+abbrev pub before : Program → List ℕ
+before p = concat encodeRange (p .ranges) ++ encodeRows INIT (p .start) ++ encodeRows PRED (p .predicates)
+
+abbrev pub behind : Program → List ℕ
+behind p = concat encodeLiterals (p .forbidden) ++ endWords
+
+pub around : (ws : List ℕ) (p : Program) → Accepted ws p → ws ≡ before p ++ (concat encodeAction (p .actions) ++ behind p)
+around ws p ok = ok .words ∙ encode-nested p ∙ simp append-assoc
+
 -- action k of an accepted program: its words stand at its place, and it is read there
 pub record ActionK (ws : List ℕ) (p : Program) (k at : ℕ) : Type 0 where
   pub here : at + length (encodeAction (getD (p .actions) k noneAction)) ≤ length ws
@@ -68,11 +78,9 @@ pub action-k : (ws : List ℕ) (p : Program) (k : ℕ) → Accepted ws p → k <
 action-k ws p k ok h =
     let good = ok .good in
     let few = good .ranges .few in
-    let tail = concat encodeLiterals (p .forbidden) ++ endWords in
+    let tail = behind p in
     let free = concat-head (literals-codec (length (p .predicates))) (p .forbidden) endWords (good .forbidden .each) refl in
-    let front = concat encodeRange (p .ranges) ++ encodeRows INIT (p .start) ++ encodeRows PRED (p .predicates) in
-    let whole : ws ≡ front ++ (concat encodeAction (p .actions) ++ tail) = ok .words ∙ encode-nested p ∙ simp append-assoc in
-    let from : drop (firstAction p) ws ≡ concat encodeAction (p .actions) ++ tail = rw whole (drop-append-seam front (concat encodeAction (p .actions) ++ tail)) in
+    let from : drop (firstAction p) ws ≡ concat encodeAction (p .actions) ++ tail = rw (around ws p ok) (drop-append-seam (before p) (concat encodeAction (p .actions) ++ tail)) in
     let a = getD (p .actions) k noneAction in
     let t = item-at (action-codec (length (p .ranges)) few) noneAction ws tail free (firstAction p) (p .actions) k from (good .actions .each) h in
     let l = ap length (t .words) in

@@ -6,7 +6,7 @@ ghost use Rattle.words.specs.Words.{noLiterals, VAR, ACTION, SETS};
 ghost use Rattle.grammar.specs.Reading.{many, refused};
 ghost use Rattle.grammar.specs.Grammar.{ranges, rows, action, combination, literalsAllowed, end};
 ghost use Rattle.reader.specs.Results.{nextOf};
-ghost use Rattle.programs.specs.Calls.{read, check, actionPart, PartOf, partPlace};
+ghost use Rattle.programs.specs.Calls.{read, check, actionPart, PartOf, partPlace, StandsAt, wordAt};
 ghost use Rattle.programs.specs.Images.{noRanges, rangesFrom, zeroRanges, countedRead, noActions, actionsFrom, noForbidden, forbiddenFrom};
 ghost use Rattle.programs.specs.Images.{loaded, placeOf, rest, restLoaded};
 ghost use Rattle.programs.specs.declared.Status.the-variants.{Ready};
@@ -409,8 +409,7 @@ pub struct Part {
 // Where the words of action k stand in the caller's list; 0 and 0 where there is no such action or no program.
 pub fn part_place(words: &[u32], k: usize) -> Part
     ensures place { λ r. ⌜ r ≡ partPlace (now (words .entry)) k ⌝ }
-    ensures part { λ r. ⌜ (r .start + r .length ≤ length (now (words .entry)))
-        × (take (r .length) (drop (r .start) (now (words .entry))) ≡ actionPart (now (words .entry)) k) ⌝ }
+    ensures part { λ r. ⌜ StandsAt (now (words .entry)) r (actionPart (now (words .entry)) k) ⌝ }
 {
     let loaded = load(words);
     let image = loaded.image;
@@ -441,6 +440,7 @@ pub fn part_place(words: &[u32], k: usize) -> Part
 pub fn action_part(words: &[u32], k: usize) -> &[u32]
     ensures answer { λ r. ⌜ now r ≡ actionPart (now (words .entry)) k ⌝ }
     ensures part { λ r. ⌜ PartOf (now (words .entry)) (now r) ⌝ }
+    ensures place { λ r. ⌜ r .ptr ≡ wordAt (words .entry .ptr) (partPlace (now (words .entry)) k .start) ⌝ }
 {
     let place = part_place(words, k);
     let start = place.start;

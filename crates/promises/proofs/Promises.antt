@@ -2,7 +2,7 @@
 --
 -- The calls' own contracts stand in the sources, without any `requires`; all words are the lent lists' at entry:
 --   programs::check(words)             r ≡ check words                                                        crates/programs/src/lib.rt
---   programs::action_part(words, k)    r ≡ actionPart words k, and PartOf words r                             crates/programs/src/lib.rt
+--   programs::action_part(words, k)    r ≡ actionPart words k, a part of words from word partPlace .start on  crates/programs/src/lib.rt
 --   runs::step(words, k, state)        r and the state at exit are those of stepCall words k state            crates/runs/src/lib.rt
 --   ask::ask(words, lemmas, k)         r ≡ ask words lemmas k; r ≡ Accepted → TrueIn (read words) lemmas k    crates/ask/src/lib.rt
 --   judge::judge(words, lemmas, g, p)  r, g and p at exit are those of judge words lemmas g p; Demand2Of and WalksOf (read words) lemmas;
@@ -12,17 +12,18 @@
 --   exports::bnv_check(..), ..         r is the record of numbers of the call's answer, by checkOf, ..        crates/exports/src/lib.rt
 use mathlib.Core.Path.{_≡_}
 use mathlib.Core.Bool.{true}
-use mathlib.Core.List.{List, [], _∷_}
+use mathlib.Core.List.{List, [], _∷_, map}
 use Prim.Native.Nat.{ℕ, _<_}
-use lib.ListN.{length}
+use lib.ListN.{length, getD}
 use lib.IntN.{ℤ, pos}
 use Rattle.grammar.specs.Reading.{got}
 use Rattle.grammar.specs.Programs.{Program}
 use Rattle.grammar.specs.Grammar.{program}
-use Rattle.grammar.specs.Encoding.{encode, concat}
+use Rattle.grammar.specs.Encoding.{encode, encodeAction, concat}
 use Rattle.grammar.specs.WellFormed.{WellFormed, Each, Few}
 use Rattle.grammar.proofs.ProgramLaws.{accepted, encoded}
-use Rattle.programs.specs.Calls.{read}
+use Rattle.programs.specs.Calls.{read, actionPart}
+use Rattle.programs.proofs.ActionParts.{part-is}
 use Rattle.runs.specs.declared.Stepped.the-variants.{RunsOff}
 use Rattle.runs.specs.Runs.{Inside, Start, run, Safe}
 use Rattle.runs.specs.Calls.{stepCall}
@@ -44,6 +45,11 @@ use Rattle.judge.proofs.Promised.{judge-safe}
 use Rattle.judge.proofs.Walks.{judge-walks, next}
 use Rattle.view.specs.Views.{viewed, shown}
 use Rattle.view.proofs.Graphs.{search-viewed}
+
+-- the part of an ACTION word, up to, but without, the next ACTION, SETS or END, is the words of that action and nothing else
+pub part-of-action : (ws : List ℕ) (p : Program) {us : List ℕ} {i : ℕ} → read ws ≡ got p us i
+    → (k : ℕ) → actionPart ws k ≡ getD (map encodeAction (p .actions)) k []
+part-of-action = part-is
 
 -- two Step calls in a row, neither of which runs off, are the run of the two actions
 pub steps-are-runs : (ws : List ℕ) (p : Program) {us : List ℕ} {i : ℕ} → read ws ≡ got p us i → (j k : ℕ) (s : List ℤ) → j < length (p .actions) → k < length (p .actions) → Inside p s

@@ -1,4 +1,3 @@
-pub mod Worked
 pub mod Loops
 pub mod Trying
 pub mod Sizes

@@ -1,3 +1,4 @@
-pub mod Shows
+pub mod Starts
 pub mod Zeros
 pub mod Table
+pub mod Line

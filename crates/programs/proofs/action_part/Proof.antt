@@ -1,7 +1,9 @@
-use mathlib.Core.Path.{_≡_}
+use mathlib.Core.Path.{_≡_, ap}
 use Prim.Native.Nat.{_+_, _-_}
 use native.Mathlib.Omega.{arith}
-use Rattle.programs.proofs.Answers.{part-of}
+use Rattle.programs.specs.declared.Part.{Part}
+use Rattle.programs.specs.Calls.{partPlace}
+use Rattle.programs.proofs.Answers.{part-of, placed-at}
 use borrow.Author.Needs.{needs}
 use Rattle.programs.proofs.action_part.Statement.{statement}
 use Rattle.programs.proofs.action_part.Tie as tie
@@ -29,7 +31,11 @@ returns c =
     let x = c .before .before .part-place .result in
     let (room, words) = c .before .before .part-place .ensures .1 in
     let long : x .start + x .length - x .start ≡ x .length = omega arith in
-    rw long (words, part-of (c .before .before .before .before .args .words .now) (x .start) (x .length) room)
+    let list = c .before .before .before .before .args .words in
+    let k = c .before .before .before .before .args .k in
+    let at = partPlace (list .now) k .start in
+    let start : x .start ≡ at = ap (λ (y : Part). y .start) (c .before .before .part-place .ensures .0) in
+    rw long (words, (part-of (list .now) (x .start) (x .length) room, placed-at (list .ptr) at (omega (arith, start))))
 
 pub action-part-spec : {M : Type 1} → statement M
 action-part-spec =

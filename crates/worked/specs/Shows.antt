@@ -1,6 +1,17 @@
--- The words of the worked shows and their lemmas. Each line of a lemma list is one lemma.
+-- The worked shows: their words, with each lemma on a line of its own, and the programs that the words are.
+--
+-- fade, house, incident      — the logic in words
+-- fadeFirst, fadeFirstZero, fadeOthers, fadeLemmas        — Fade's lemmas
+-- houseBefore, houseFails, houseBehind, houseLemmas       — House's lemmas
+-- row2, level                — a row of the first two variables; the range 0..1000
+-- fadeProgram, houseProgram, incidentProgram              — the logic as a value
+-- bytesOf                    — the bytes of words, the lowest first
 use mathlib.Core.List.{List, [], _∷_, _++_}
-use Prim.Native.Nat.{ℕ}
+use Prim.Native.Nat.{ℕ, _/_, _%_}
+use lib.IntN.{ℤ, pos, negsuc}
+use Rattle.rows.specs.declared.Row.{Row}
+use Rattle.rows.specs.declared.Range.{Range}
+use Rattle.grammar.specs.Programs.{Program}
 
 -- Fade: level 0..1000; action 0 takes 5 off if the level is at least 5; action 1 adds 5 if at most 995.
 abbrev pub fade : List ℕ
@@ -79,3 +90,64 @@ houseBehind =
 
 abbrev pub houseLemmas : List ℕ
 houseLemmas = houseBefore ++ (houseFails ++ houseBehind)
+
+-- The macro of the incident: a level of 5, and an action that takes 10 off with no guard.
+abbrev pub incident : List ℕ
+incident =
+    0x100003E8
+    ∷ 0x40000002 ∷ 0x2FFFFFFB ∷ 0x30000001 ∷ 0x20000005 ∷ 0x3000FFFF
+    ∷ 0x50000000
+    ∷ 0x60000001 ∷ 0x70000000 ∷ 0x2FFFFFF6 ∷ 0x30000001
+    ∷ 0xF0000000 ∷ []
+
+-- ---- as values
+-- a row of the first two variables
+abbrev pub row2 : ℤ → ℤ → ℤ → Row
+row2 a b k = record { coef = a ∷ b ∷ pos 0 ∷ pos 0 ∷ pos 0 ∷ pos 0 ∷ pos 0 ∷ pos 0 ∷ []; constant = k }
+
+abbrev pub level : Range
+level = record { low = pos 0; high = pos 1000 }
+
+abbrev pub fadeProgram : Program
+fadeProgram =
+    record {
+      ranges = level ∷ [];
+      start = [];
+      predicates = [];
+      actions =
+          record { guards = row2 (pos 1) (pos 0) (negsuc 4) ∷ []; sets = record { variable = 0; row = row2 (pos 1) (pos 0) (negsuc 4) } ∷ [] }
+          ∷ record { guards = row2 (negsuc 0) (pos 0) (pos 995) ∷ []; sets = record { variable = 0; row = row2 (pos 1) (pos 0) (pos 5) } ∷ [] }
+          ∷ [];
+      forbidden = [];
+    }
+
+-- both 0 at the start
+abbrev pub houseProgram : Program
+houseProgram =
+    record {
+      ranges = level ∷ record { low = pos 0; high = pos 1 } ∷ [];
+      start = row2 (negsuc 0) (pos 0) (pos 0) ∷ row2 (pos 0) (negsuc 0) (pos 0) ∷ [];
+      predicates = row2 (pos 1) (pos 0) (negsuc 0) ∷ row2 (pos 0) (pos 1) (negsuc 0) ∷ [];
+      actions =
+          record { guards = row2 (negsuc 0) (pos 0) (pos 0) ∷ []; sets = record { variable = 1; row = row2 (pos 0) (pos 0) (pos 1) } ∷ [] }
+          ∷ record { guards = row2 (pos 0) (negsuc 0) (pos 0) ∷ []; sets = record { variable = 0; row = row2 (pos 0) (pos 0) (pos 500) } ∷ [] }
+          ∷ record { guards = []; sets = record { variable = 0; row = row2 (pos 0) (pos 0) (pos 0) } ∷ [] }
+          ∷ record { guards = []; sets = record { variable = 1; row = row2 (pos 0) (pos 0) (pos 0) } ∷ [] }
+          ∷ [];
+      forbidden = record { 0 = 3 } ∷ [];
+    }
+
+abbrev pub incidentProgram : Program
+incidentProgram =
+    record {
+      ranges = level ∷ [];
+      start = row2 (pos 1) (pos 0) (negsuc 4) ∷ row2 (negsuc 0) (pos 0) (pos 5) ∷ [];
+      predicates = [];
+      actions = record { guards = []; sets = record { variable = 0; row = row2 (pos 1) (pos 0) (negsuc 9) } ∷ [] } ∷ [];
+      forbidden = [];
+    }
+
+-- ---- as bytes
+unfoldable pub bytesOf : List ℕ → List ℕ
+bytesOf [] = []
+bytesOf (w ∷ ws) = w % 256 ∷ w / 256 % 256 ∷ w / 65536 % 256 ∷ w / 16777216 % 256 ∷ bytesOf ws
