@@ -32,8 +32,10 @@ fn act(
     j: usize,
     shown: u64,
 ) -> Explored
-    requires { ⌜ (graphWords ≤ length (now graph)) × (hintCount ≤ length (now hints)) × (nodes ≤ mostNodes) × (actions ≤ 16) × (k < nodes) × (j < actions) × (edges ≤ k * actions + j) ⌝ }
-    ensures { λ r. ⌜ Turned (λ h. answered mostNodes h (From k j) (answerOf (successorOf shown))) (now (graph .entry)) actions nodes edges (k * actions + j) r (now (graph .exit)) (k * actions + j + 1) ⌝ }
+    requires { ⌜ (graphWords ≤ length (now graph)) × (hintCount ≤ length (now hints)) × (nodes ≤ mostNodes) × (actions ≤ 16) × (k < nodes) × (j < actions)
+        × (edges ≤ k * actions + j) ⌝ }
+    ensures { λ r. ⌜ Turned (λ h. answered mostNodes h (From k j) (answerOf (successorOf shown))) (now (graph .entry)) actions nodes edges (k * actions + j) r
+        (now (graph .exit)) (k * actions + j + 1) ⌝ }
 {
     let next = gather::successor_of(shown);
     match next {
@@ -57,8 +59,10 @@ fn turn(
     actions: usize,
     k: usize,
 ) -> Explored
-    requires { ⌜ (n ≤ length (now premises)) × (n ≤ length (now keys)) × (graphWords ≤ length (now graph)) × (hintCount ≤ length (now hints)) × (nodes ≤ mostNodes) × (actions ≤ 16) × (k < nodes) × (edges ≤ k * actions) ⌝ }
-    ensures { λ r. ⌜ Turned (λ h. turns (nextOf (entries (now (premises .entry)) (now (keys .entry)) n)) mostNodes h k actions) (now (graph .entry)) actions nodes edges (k * actions) r (now (graph .exit)) (k * actions + actions) ⌝ }
+    requires { ⌜ (n ≤ length (now premises)) × (n ≤ length (now keys)) × (graphWords ≤ length (now graph)) × (hintCount ≤ length (now hints))
+        × (nodes ≤ mostNodes) × (actions ≤ 16) × (k < nodes) × (edges ≤ k * actions) ⌝ }
+    ensures { λ r. ⌜ Turned (λ h. turns (nextOf (entries (now (premises .entry)) (now (keys .entry)) n)) mostNodes h k actions)
+        (now (graph .entry)) actions nodes edges (k * actions) r (now (graph .exit)) (k * actions + actions) ⌝ }
 {
     let node = records::word_at(&graph[..], actions, k);
     let shown = gather::gather_all(premises, keys, n, Literals::of(node).0);
@@ -87,8 +91,10 @@ fn explore_from(
     actions: usize,
     start: u32,
 ) -> Explored
-    requires { ⌜ (n ≤ length (now premises)) × (n ≤ length (now keys)) × (graphWords ≤ length (now graph)) × (hintCount ≤ length (now hints)) × (actions ≤ 16) ⌝ }
-    ensures { λ r. ⌜ Filled actions (explored (nextOf (entries (now (premises .entry)) (now (keys .entry)) n)) actions mostNodes (To start)) r (now (graph .entry)) (now (graph .exit)) ⌝ }
+    requires { ⌜ (n ≤ length (now premises)) × (n ≤ length (now keys)) × (graphWords ≤ length (now graph)) × (hintCount ≤ length (now hints))
+        × (actions ≤ 16) ⌝ }
+    ensures { λ r. ⌜ Filled actions (explored (nextOf (entries (now (premises .entry)) (now (keys .entry)) n)) actions mostNodes (To start)) r
+        (now (graph .entry)) (now (graph .exit)) ⌝ }
 {
     records::begin(&mut *graph, start);
     let mut nodes: usize = 1;
@@ -125,7 +131,8 @@ pub fn explore(
     graph: &mut [u32],
 ) -> Explored
     requires { ⌜ (n ≤ length (now premises)) × (n ≤ length (now keys)) × (graphWords ≤ length (now graph)) × (actions ≤ 16) ⌝ }
-    ensures { λ r. ⌜ (r ≡ exploredOf (graphOf (entries (now (premises .entry)) (now (keys .entry)) n) actions)) × (now (graph .exit) ≡ graphList actions (graphOf (entries (now (premises .entry)) (now (keys .entry)) n) actions) (now (graph .entry))) ⌝ }
+    ensures { λ r. ⌜ (r ≡ exploredOf (graphOf (entries (now (premises .entry)) (now (keys .entry)) n) actions))
+        × (now (graph .exit) ≡ graphList actions (graphOf (entries (now (premises .entry)) (now (keys .entry)) n) actions) (now (graph .entry))) ⌝ }
 {
     records::clear(&mut *graph, records::ROOM);
     let next = gather::successor_of(gather::gather(

@@ -136,7 +136,8 @@ pub fn enter_none(
     j: usize,
 ) -> Explored
     requires { ⌜ (graphWords ≤ length (now graph)) × (nodes ≤ mostNodes) × (actions ≤ 16) × (k < nodes) × (j < actions) × (edges ≤ k * actions + j) ⌝ }
-    ensures { λ r. ⌜ Turned (λ h. answered mostNodes h (From k j) None) (now (graph .entry)) actions nodes edges (k * actions + j) r (now (graph .exit)) (k * actions + j + 1) ⌝ }
+    ensures { λ r. ⌜ Turned (λ h. answered mostNodes h (From k j) None) (now (graph .entry)) actions nodes edges (k * actions + j) r (now (graph .exit))
+        (k * actions + j + 1) ⌝ }
 {
     let place = edge_place(actions, k, j);
     graph[place] = Kind::EDGE.word(words::NO_NODE);
@@ -154,8 +155,10 @@ pub fn enter(
     j: usize,
     w: u32,
 ) -> Explored
-    requires { ⌜ (graphWords ≤ length (now graph)) × (hintCount ≤ length (now hints)) × (nodes ≤ mostNodes) × (actions ≤ 16) × (k < nodes) × (j < actions) × (edges ≤ k * actions + j) ⌝ }
-    ensures turn { λ r. ⌜ Turned (λ h. answered mostNodes h (From k j) (To w)) (now (graph .entry)) actions nodes edges (k * actions + j) r (now (graph .exit)) (k * actions + j + 1) ⌝ }
+    requires { ⌜ (graphWords ≤ length (now graph)) × (hintCount ≤ length (now hints)) × (nodes ≤ mostNodes) × (actions ≤ 16) × (k < nodes) × (j < actions)
+        × (edges ≤ k * actions + j) ⌝ }
+    ensures turn { λ r. ⌜ Turned (λ h. answered mostNodes h (From k j) (To w)) (now (graph .entry)) actions nodes edges (k * actions + j) r (now (graph .exit))
+        (k * actions + j + 1) ⌝ }
     ensures hints { λ _. ⌜ hintCount ≤ length (now (hints .exit)) ⌝ }
 {
     let at = find(&graph[..], &hints[..], nodes, actions, w);

@@ -1,10 +1,12 @@
 -- Each way through a report.
-use mathlib.Core.Path.{_≡_, refl}
-use mathlib.Core.List.{List, _++_}
+use mathlib.Core.Path.{_≡_, refl, sym}
+use mathlib.Core.Bool.{Bool, true, false, cond}
+use mathlib.Core.List.{List, [], _++_, cons≢nil}
 use Prim.Native.Nat.{ℕ, _-_, _/_, _%_, _<_, _≤_}
 use native.Mathlib.Omega.{arith}
 use lib.ListN.{length, take, drop, length-append, length-drop}
 use lib.Seq.{take-at, take-all}
+use lib.Dec.{ltb}
 use borrow.Author.Tests.{lt-ltb, le-ltb, eq-eqb, ne-eqb}
 use Rattle.records.specs.Records.{graphWords}
 use Rattle.verdict.specs.Verdicts.{pathWords}
@@ -15,7 +17,8 @@ use Rattle.little.proofs.Laws.{length-words}
 use Rattle.lines.specs.Text.{text}
 use Rattle.lines.specs.Puts.{Put}
 use Rattle.lines.proofs.Puts.{at-front}
-use Rattle.report.specs.Report.{mostBytes, linesRoom, logicLength, wordsIn, zeros, judged, answerLines, judgementLines, showLines, linesOf, shown}
+use Rattle.report.specs.Report.{mostBytes, linesRoom, logicLength, wordsIn, zeros, judged, answerLines, judgementLines, showLines, linesOf, shown, Begins, SafeShow}
+use Rattle.report.proofs.SafeLine.{show-safe}
 
 pub with-fresh : (logic lemmas gl pl : List ℕ) (r : Judged) (q : List ℕ) → gl ≡ zeros graphWords → pl ≡ zeros pathWords
     → r ≡ judge logic lemmas gl pl .answer → q ≡ judge logic lemmas gl pl .path → answerLines r q ≡ judgementLines (judged logic lemmas)
@@ -31,7 +34,7 @@ at-the-end ws n e =
 pub words-read : (b ws space : List ℕ) → ws ≡ wordsOf b (length b / 4) ++ drop (length b / 4) space → take (length b / 4) ws ≡ wordsIn b
 words-read b ws space e = rw e (take-at (wordsIn b) (drop (length b / 4) space) (length b / 4) (length-words b (length b / 4)))
 
-abbrev Reported : List ℕ → List ℕ → List ℕ → ℕ → Type 0
+abbrev pub Reported : List ℕ → List ℕ → List ℕ → ℕ → Type 0
 Reported b lines out r = (out ≡ shown b lines ++ drop (length (shown b lines)) lines) × (r ≡ length (shown b lines))
 
 pub cut : (b more : List ℕ) → mostBytes < length b → linesOf (b ++ more) ≡ linesOf b
@@ -59,3 +62,12 @@ module _ (b lines : List ℕ) where
     pub whole-words : {out : List ℕ} {r : ℕ} → length b ≤ mostBytes → length b % 4 ≡ 0 → Put lines 0 (showLines (wordsIn b)) out r → Reported b lines out r
     unfolding linesOf
     whole-words g o p = reported (rw (le-ltb mostBytes (length b) g, eq-eqb (length b % 4) 0 o)) p
+
+-- what was written begins with SAFE: a list that is too short gets nothing
+pub written-safe : (b lines : List ℕ) {out : List ℕ} {r : ℕ} → Reported b lines out r → Begins (text "SAFE") (take r out) → SafeShow b
+written-safe b lines {out} {r} p h =
+    go (ltb (length lines) linesRoom) (rw (p .0, take-at (shown b lines) (drop (length (shown b lines)) lines) r (sym (p .1))) at h)
+  where
+    go : (short : Bool) → Begins (text "SAFE") (cond short [] (linesOf b)) → SafeShow b
+    go true q = absurd (cons≢nil (sym q))
+    go false q = show-safe b q

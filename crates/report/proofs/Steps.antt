@@ -9,7 +9,8 @@ use lib.Dec.{eqb}
 use lib.ListN.{length, drop, getD, length-append, drop-of-length-le}
 use lib.Seq.{drop-cons}
 use Rattle.words.specs.Words.{kindOf, payload, STEP}
-use Rattle.lines.specs.Text.{text, Put, field}
+use Rattle.lines.specs.Text.{text, field}
+use Rattle.lines.specs.Puts.{Put}
 use Rattle.lines.proofs.Puts.{then-put, put-nothing}
 use Rattle.report.specs.Report.{stepsIn, stepText}
 

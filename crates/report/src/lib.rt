@@ -2,11 +2,13 @@
 ghost use mathlib.Core.Path.{_≡_};
 ghost use mathlib.Core.List.{List, _++_};
 ghost use Prim.Native.Nat.{ℕ, _+_, _<_, _≤_};
-ghost use lib.ListN.{length, drop};
+ghost use lib.ListN.{length, take, drop};
 ghost use Rattle.records.specs.Records.{graphWords};
 ghost use Rattle.verdict.specs.Verdicts.{pathWords};
-ghost use Rattle.lines.specs.Text.{Put, text};
-ghost use Rattle.report.specs.Report.{mostBytes, linesRoom, logicLength, wordsIn, zeros, judged, stepsIn, endText, runOffLine, refusedLine, stepText, pathLine, answerLines, judgementLines, showLines, linesOf, shown, Begins, SafeShow};
+ghost use Rattle.lines.specs.Text.{text};
+ghost use Rattle.lines.specs.Puts.{Put};
+ghost use Rattle.report.specs.Report.{mostBytes, linesRoom, logicLength, wordsIn, zeros, judged, stepsIn, endText, runOffLine, refusedLine};
+ghost use Rattle.report.specs.Report.{stepText, pathLine, answerLines, judgementLines, showLines, linesOf, shown, Begins, SafeShow};
 use judge::Judged;
 use words::Kind;
 use words::Refusal;
@@ -157,11 +159,13 @@ fn put_show(out: &mut [u8], input: &[u8]) -> usize
 }
 
 // The lines of any bytes, at the front of `lines`; answers how many bytes they have. Where `lines` has under 4,096 bytes it is left, and the
-// answer is 0. Of more than 65,536 bytes, those behind the first 65,537 change nothing. A line that begins with SAFE is a promise of the logic.
+// answer is 0. Of more than 65,536 bytes, those behind the first 65,537 change nothing. If what was written begins with SAFE, the logic in the input is safe.
 pub fn report(input: &[u8], lines: &mut [u8]) -> usize
-    ensures lines { λ r. ⌜ (now (lines .exit) ≡ shown (now (input .entry)) (now (lines .entry)) ++ drop (length (shown (now (input .entry)) (now (lines .entry)))) (now (lines .entry))) × (r ≡ length (shown (now (input .entry)) (now (lines .entry)))) ⌝ }
+    ensures lines { λ r. ⌜ (now (lines .exit)
+        ≡ shown (now (input .entry)) (now (lines .entry)) ++ drop (length (shown (now (input .entry)) (now (lines .entry)))) (now (lines .entry)))
+        × (r ≡ length (shown (now (input .entry)) (now (lines .entry)))) ⌝ }
     ensures cut { λ _. ⌜ ((more : List ℕ) → mostBytes < length (now (input .entry)) → linesOf (now (input .entry) ++ more) ≡ linesOf (now (input .entry))) ⌝ }
-    ensures safe { λ _. ⌜ (Begins (text "SAFE") (linesOf (now (input .entry))) → SafeShow (now (input .entry))) ⌝ }
+    ensures safe { λ r. ⌜ (Begins (text "SAFE") (take r (now (lines .exit))) → SafeShow (now (input .entry))) ⌝ }
 {
     if lines.len() < 4096 {
         return 0;

@@ -56,7 +56,8 @@ fn count_steps(graph: &[u32], actions: usize, node: usize) -> usize
 
 // The d steps to the node, written from the last to the first.
 fn write_steps(graph: &[u32], actions: usize, node: usize, d: usize, path: &mut [u32])
-    requires { ⌜ (graphWords ≤ length (now graph)) × (actions ≤ 16) × (node < mostNodes) × (d ≡ length (backAt (now graph) actions mostNodes node)) × (d ≤ mostNodes) × (d ≤ length (now path)) ⌝ }
+    requires { ⌜ (graphWords ≤ length (now graph)) × (actions ≤ 16) × (node < mostNodes) × (d ≡ length (backAt (now graph) actions mostNodes node))
+        × (d ≤ mostNodes) × (d ≤ length (now path)) ⌝ }
     ensures { λ _. ⌜ now (path .exit) ≡ map (word STEP) (reverse (backAt (now (graph .entry)) actions mostNodes node)) ++ drop d (now (path .entry)) ⌝ }
 {
     let mut k = node;
@@ -72,7 +73,8 @@ fn write_steps(graph: &[u32], actions: usize, node: usize, d: usize, path: &mut 
 // The steps from node 0 to the node at the front of the path list, then zeros up to 512 words.
 pub fn write_path(graph: &[u32], actions: usize, node: usize, path: &mut [u32])
     requires { ⌜ (graphWords ≤ length (now graph)) × (actions ≤ 16) × (node < mostNodes) × (pathWords ≤ length (now path)) ⌝ }
-    ensures { λ _. ⌜ ((g : Graph) (l₀ : List ℕ) → now (graph .entry) ≡ graphList actions (Done g) l₀ → Traced actions g → node < count g → now (path .exit) ≡ pathList (stepsTo g node) (now (path .entry))) ⌝ }
+    ensures { λ _. ⌜ ((g : Graph) (l₀ : List ℕ) → now (graph .entry) ≡ graphList actions (Done g) l₀ → Traced actions g → node < count g
+        → now (path .exit) ≡ pathList (stepsTo g node) (now (path .entry))) ⌝ }
 {
     let d = count_steps(graph, actions, node);
     records::clear(&mut *path, PATH_ROOM);
@@ -188,8 +190,12 @@ fn found_at(
     graph: &[u32],
     k: usize,
 ) -> Found
-    requires { ⌜ (n ≤ length (now premises)) × (n ≤ length (now keys)) × (forbidden ≤ 8) × (actions ≤ 16) × (graphWords ≤ length (now graph)) × (k < mostNodes) ⌝ }
-    ensures { λ r. ⌜ Within (k + 1) r × ((p : Program) (ls : List Lemma) (g : Graph) → Judging p ls g (entries (now (premises .entry)) (now (keys .entry)) n) literals forbidden asked actions (now (graph .entry)) → k < count g → r ≡ foundOf (findingsAt p ls g k)) ⌝ }
+    requires { ⌜ (n ≤ length (now premises)) × (n ≤ length (now keys)) × (forbidden ≤ 8) × (actions ≤ 16) × (graphWords ≤ length (now graph))
+        × (k < mostNodes) ⌝ }
+    ensures { λ r. ⌜ Within (k + 1) r
+        × ((p : Program) (ls : List Lemma) (g : Graph)
+        → Judging p ls g (entries (now (premises .entry)) (now (keys .entry)) n) literals forbidden asked actions (now (graph .entry)) → k < count g
+        → r ≡ foundOf (findingsAt p ls g k)) ⌝ }
 {
     let set = records::word_at(graph, actions, k) % 268435456;
     let b = first_free(literals, forbidden, set);
@@ -212,8 +218,12 @@ pub fn first_finding(
     graph: &[u32],
     nodes: usize,
 ) -> Found
-    requires { ⌜ (n ≤ length (now premises)) × (n ≤ length (now keys)) × (forbidden ≤ 8) × (actions ≤ 16) × (graphWords ≤ length (now graph)) × (nodes ≤ mostNodes) ⌝ }
-    ensures { λ r. ⌜ Within nodes r × ((p : Program) (ls : List Lemma) (g : Graph) → Judging p ls g (entries (now (premises .entry)) (now (keys .entry)) n) literals forbidden asked actions (now (graph .entry)) → nodes ≡ count g → r ≡ foundOf (findings p ls g)) ⌝ }
+    requires { ⌜ (n ≤ length (now premises)) × (n ≤ length (now keys)) × (forbidden ≤ 8) × (actions ≤ 16) × (graphWords ≤ length (now graph))
+        × (nodes ≤ mostNodes) ⌝ }
+    ensures { λ r. ⌜ Within nodes r
+        × ((p : Program) (ls : List Lemma) (g : Graph)
+        → Judging p ls g (entries (now (premises .entry)) (now (keys .entry)) n) literals forbidden asked actions (now (graph .entry)) → nodes ≡ count g
+        → r ≡ foundOf (findings p ls g)) ⌝ }
 {
     let mut k: usize = 0;
     while k < nodes {

@@ -31,7 +31,7 @@ unfolding judged
 fade-judged = ap (λ (j : Judgement). j .answer) (worked .a (zeros graphWords) (zeros pathWords) (long graphWords) (long pathWords))
 
 pub fade-line : linesOf (bytesOf (fade ++ fadeLemmas)) ≡ text "SAFE nodes 1 edges 2\n"
-unfolding linesOf bytesOf
+unfolding linesOf bytesOf answerLines line decimal spelled
 fade-line = rw (fade-words, fade-logic .0, fade-logic .1, fade-judged) spelled-out
   where
     spelled-out : answerLines (Safe 1 2) (judged fade fadeLemmas .path) ≡ text "SAFE nodes 1 edges 2\n"

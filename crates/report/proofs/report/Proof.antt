@@ -1,6 +1,5 @@
 use native.Mathlib.Omega.{arith}
-use Rattle.report.proofs.Cases.{cut, no-room, too-long, odd-bytes, whole-words}
-use Rattle.report.proofs.SafeLine.{show-safe}
+use Rattle.report.proofs.Cases.{cut, no-room, too-long, odd-bytes, whole-words, written-safe}
 use borrow.Author.Needs.{needs}
 use Rattle.report.proofs.report.Statement.{statement}
 use Rattle.report.proofs.report.Tie as tie
@@ -8,7 +7,8 @@ use Rattle.report.proofs.report.Tie as tie
 returns : tie.Need-returns
 returns c =
     let a = c .before .before .before .args in
-    (no-room (a .input .now) (a .lines .now) (omega arith), (cut (a .input .now), show-safe (a .input .now)))
+    let said = no-room (a .input .now) (a .lines .now) (omega arith) in
+    (said, (cut (a .input .now), written-safe (a .input .now) (a .lines .now) said))
 
 slice-aggregate-put-bytes : tie.Need-slice-aggregate-put-bytes
 slice-aggregate-put-bytes c = search needs
@@ -22,7 +22,8 @@ same-length c = search needs
 returns-2 : tie.Need-returns-2
 returns-2 c =
     let a = c .before .before .before .before .before .before .before .before .before .args in
-    (too-long (a .input .now) (a .lines .now) (omega arith) (omega arith) (c .before .before .put-bytes .ensures), (cut (a .input .now), show-safe (a .input .now)))
+    let said = too-long (a .input .now) (a .lines .now) (omega arith) (omega arith) (c .before .before .put-bytes .ensures) in
+    (said, (cut (a .input .now), written-safe (a .input .now) (a .lines .now) said))
 
 slice-aggregate-put-bytes-2 : tie.Need-slice-aggregate-put-bytes-2
 slice-aggregate-put-bytes-2 c = search needs
@@ -36,7 +37,8 @@ same-length-2 c = search needs
 returns-3 : tie.Need-returns-3
 returns-3 c =
     let a = c .before .before .before .before .before .before .before .before .before .before .args in
-    (odd-bytes (a .input .now) (a .lines .now) (omega arith) (omega arith) (c .before .before .before .before .before .if3 .taken) (c .before .before .put-bytes2 .ensures), (cut (a .input .now), show-safe (a .input .now)))
+    let said = odd-bytes (a .input .now) (a .lines .now) (omega arith) (omega arith) (c .before .before .before .before .before .if3 .taken) (c .before .before .put-bytes2 .ensures) in
+    (said, (cut (a .input .now), written-safe (a .input .now) (a .lines .now) said))
 
 put-show-requires : tie.Need-put-show-requires
 put-show-requires c κs = search needs
@@ -47,7 +49,8 @@ same-length-3 c = search needs
 returns-4 : tie.Need-returns-4
 returns-4 c =
     let a = c .before .before .before .before .before .before .before .before .before .args in
-    (whole-words (a .input .now) (a .lines .now) (omega arith) (omega arith) (c .before .before .before .before .if3 .left) (c .before .before .put-show .ensures), (cut (a .input .now), show-safe (a .input .now)))
+    let said = whole-words (a .input .now) (a .lines .now) (omega arith) (omega arith) (c .before .before .before .before .if3 .left) (c .before .before .put-show .ensures) in
+    (said, (cut (a .input .now), written-safe (a .input .now) (a .lines .now) said))
 
 pub report-spec : {M : Type 1} → statement M
 report-spec =
