@@ -105,7 +105,8 @@ pub fn lemma_sum(
     requires { ⌜ (np ≤ 14) × (n ≤ 14) × (at + length (lemmaRows goal q (take np preds) set (take n rows)) ≤ length (now words)) ⌝ }
     requires { ⌜ After q ⌝ }
     requires { ⌜ ((i : ℕ) → Read (getD preds i noRow)) × ((i : ℕ) → Read (getD rows i noRow)) ⌝ }
-    ensures { λ r. ⌜ (r ≡ combine (constRow (pos 0)) (map multOf (drop at (now (words .entry)))) (lemmaRows goal q (take np preds) set (take n rows))) × Small r ⌝ }
+    ensures { λ r. ⌜ (r ≡ combine (constRow (pos 0)) (map multOf (drop at (now (words .entry)))) (lemmaRows goal q (take np preds) set (take n rows)))
+        × Small r ⌝ }
 {
     let coef = [0i64; 8];
     let row = Row { coef, constant: 0 };

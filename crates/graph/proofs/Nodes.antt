@@ -14,7 +14,8 @@ use lib.Seq.{drop-at, drop-set-lt}
 use Rattle.search.specs.Search.{Answer, To, None, Root, Graph, Result, Done, Over, count, links, linksIn, empty, turns, node, run, explored}
 use Rattle.search.proofs.Theorem as theorem
 use Rattle.search.proofs.Steps.{explored-over, explored-done}
-use Rattle.records.specs.Records.{mostNodes, graphWords, originWord, stride, recordPlace, recordsOf, graphList, exploredOf}
+use Rattle.records.specs.Records.{mostNodes, graphWords, originWord, stride, recordPlace, recordsOf, graphList}
+use Rattle.records.specs.Steps.{exploredOf}
 use Rattle.records.specs.declared.Explored.{Explored}
 use Rattle.records.specs.declared.Explored.the-variants.{Whole, Full}
 use Rattle.records.specs.Steps.{column, Kept, Mid, Fair, Turned, Filled}

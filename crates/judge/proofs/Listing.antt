@@ -15,7 +15,8 @@ use Rattle.lemmas.specs.Sources.{theProgram, Held}
 use Rattle.lemmas.proofs.SourceLaws.{counts}
 use Rattle.gather.specs.Gathering.{Entry, entryOf, entries}
 use Rattle.search.specs.Search.{Graph, Result, Done, Over, count, links}
-use Rattle.records.specs.Records.{graphList, exploredOf}
+use Rattle.records.specs.Records.{graphList}
+use Rattle.records.specs.Steps.{exploredOf}
 use Rattle.records.specs.declared.Explored.{Explored}
 use Rattle.records.specs.declared.Explored.the-variants.{Whole, Full}
 use Rattle.graph.specs.Graph.{graphOf}

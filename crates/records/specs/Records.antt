@@ -1,19 +1,16 @@
 -- The records of a graph in a list of words, one after the other: a node's word, its origin, and an edge for each action.
 --
 -- edgeWord, originWord   — the words of an edge and of an origin
--- originOffset, stride   — where in a record its origin stands; how many words it has
+-- stride                 — how many words a record has
 -- recordPlace, edgePlace — where a record begins; where an edge of it stands
 -- edgeRow, nodeRecord, recordsOf — the first j edge words of node k; the record of node k; the first n records
 -- listOf, graphList      — the list that a search leaves: the records, then zeros up to its room, then what was there
--- exploredOf             — what a search answers: the number of nodes and of edges that lead to a node, or that there are too many nodes
 use Prim.Native.Nat.{ℕ, zero, suc, _+_, _*_, _-_}
 use mathlib.Core.List.{List, [], _∷_, _++_}
 use lib.ListN.{drop, replicate}
 use Rattle.words.specs.Words.{word, ORIGIN, EDGE, noNode, noParent}
 pub use Rattle.words.specs.Limits.{mostNodes, header, graphWords}
-use Rattle.search.specs.Search.{Answer, To, None, Origin, Root, From, Graph, Result, Done, Over, count, links, nodeWord, origin, edge}
-use Rattle.records.specs.declared.Explored.{Explored}
-use Rattle.records.specs.declared.Explored.the-variants.{Whole, Full}
+use Rattle.search.specs.Search.{Answer, To, None, Origin, Root, From, Graph, Result, Done, Over, count, nodeWord, origin, edge}
 
 abbrev pub edgeWord : Answer → ℕ
 edgeWord (To m) = word EDGE m
@@ -25,9 +22,6 @@ originWord Root = word ORIGIN noParent
 originWord (From p j) = word ORIGIN (p * 16 + j)
 
 -- ---- where the words stand
-abbrev pub originOffset : ℕ
-originOffset = 1
-
 abbrev pub stride : ℕ → ℕ
 stride a = header + a
 
@@ -56,7 +50,3 @@ listOf N a Over rest = replicate N 0 ++ rest
 
 abbrev pub graphList : ℕ → Result → List ℕ → List ℕ
 graphList a r l₀ = listOf graphWords a r (drop graphWords l₀)
-
-abbrev pub exploredOf : Result → Explored
-exploredOf (Done g) = Whole (count g) (links g)
-exploredOf Over = Full

@@ -1,5 +1,7 @@
 -- What the steps of a search do to the list that it writes the records in.
 --
+-- originOffset — where in a record its origin stands
+-- exploredOf — what a search answers: the number of nodes and of edges that lead to a node, or that there are too many nodes
 -- column — word c of each of the first n records
 -- hintCount  — how many hints there are: guesses where a word stands
 -- Firsts — each word of a list is first found where it stands
@@ -13,9 +15,16 @@ use mathlib.Core.Path.{_≡_}
 use mathlib.Core.List.{List, [], _∷_, _++_, map}
 use lib.ListN.{length, drop, getD}
 use Rattle.search.specs.Search.{Graph, Result, Done, Over, count, links, edge, seek}
-use Rattle.records.specs.Records.{originWord, edgeWord, mostNodes, graphWords, originOffset, recordPlace, edgePlace, recordsOf}
+use Rattle.records.specs.Records.{originWord, edgeWord, mostNodes, graphWords, recordPlace, edgePlace, recordsOf}
 use Rattle.records.specs.declared.Explored.{Explored}
 use Rattle.records.specs.declared.Explored.the-variants.{Whole, Full}
+
+abbrev pub originOffset : ℕ
+originOffset = 1
+
+abbrev pub exploredOf : Result → Explored
+exploredOf (Done g) = Whole (count g) (links g)
+exploredOf Over = Full
 
 unfoldable pub column : List ℕ → ℕ → ℕ → ℕ → List ℕ
 column l a c zero = []

@@ -4,7 +4,8 @@ ghost use mathlib.Core.List.{_++_};
 ghost use Prim.Native.Nat.{_+_, _*_, _<_, _≤_};
 ghost use lib.ListN.{length, drop, getD, set, replicate};
 ghost use Rattle.search.specs.Search.{To, None, Root, From, seek, answered};
-ghost use Rattle.records.specs.Records.{edgeWord, originWord, mostNodes, header, graphWords, originOffset, stride, recordPlace, edgePlace};
+ghost use Rattle.records.specs.Records.{edgeWord, originWord, mostNodes, header, graphWords, stride, recordPlace, edgePlace};
+ghost use Rattle.records.specs.Steps.{originOffset};
 ghost use Rattle.records.specs.Steps.{column, hintCount, Firsts, Turned};
 use words::Kind;
 

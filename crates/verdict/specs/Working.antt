@@ -29,7 +29,8 @@ use Rattle.gather.specs.declared.Successor.{Successor}
 use Rattle.gather.specs.declared.Successor.the-variants.{Set}
 use Rattle.gather.specs.declared.Successor.the-variants.{Nothing as NoSet}
 use Rattle.search.specs.Search.{Origin, Root, From, Graph, Done, count, origin}
-use Rattle.records.specs.Records.{originWord, mostNodes, originOffset, recordPlace, graphList}
+use Rattle.records.specs.Records.{originWord, mostNodes, recordPlace, graphList}
+use Rattle.records.specs.Steps.{originOffset}
 use Rattle.words.specs.LiteralSets.{literalsIn, has}
 use Rattle.abstraction.specs.Abstraction.{applies, successor}
 use Rattle.verdict.specs.Verdicts.{Finding, Forbid, RunOff, hasNext}
@@ -105,7 +106,8 @@ firstUnshown asked shown k j (suc n) =
     (firstUnshown asked shown k (suc j) n)
 
 -- ---- what is judged
-pub record Judging (p : Program) (ls : List Lemma) (g : Graph) (es : List Entry) (literals : List Literals) (forbidden : ℕ) (asked : List ℕ) (actions : ℕ) (l : List ℕ) : Type 0 where
+pub record Judging (p : Program) (ls : List Lemma) (g : Graph) (es : List Entry) (literals : List Literals) (forbidden : ℕ)
+    (asked : List ℕ) (actions : ℕ) (l : List ℕ) : Type 0 where
   pub good : WellFormed p
   pub combinations : literals ≡ sets (replicate 8 noLiterals) 0 (p .forbidden)
   pub forbidden-count : forbidden ≡ length (p .forbidden)

@@ -1,4 +1,5 @@
 pub mod Words
+pub mod Making
 pub mod Limits
 pub mod Refusals
 pub mod LiteralSets

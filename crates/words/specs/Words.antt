@@ -8,7 +8,6 @@
 -- noNode, noParent — the payload of an EDGE that names no successor; that of node 0's ORIGIN
 -- signedBy, signed — the number that a field stands for, in two's complement
 -- unsigned   — the bits of a number
--- literals   — a set of literals from its two sets of predicates
 -- literalsOf — the set in a SETS word
 -- noLiterals — the empty set
 use mathlib.Core.Bool.{cond}
@@ -91,10 +90,6 @@ signed wide n = signedBy (2 ^ (wide - 1)) n
 abbrev pub unsigned : ℕ → ℤ → ℕ
 unsigned wide (pos n) = n
 unsigned wide (negsuc n) = 2 ^ wide - suc n
-
--- a set of literals as the payload of SETS: known-false predicates in bits 27..14, known-true ones in 13..0
-abbrev pub literals : ℕ → ℕ → Literals
-literals known-false known-true = record { 0 = known-false % 2 ^ 14 * 2 ^ 14 + known-true % 2 ^ 14 }
 
 abbrev pub literalsOf : ℕ → Literals
 literalsOf w = record { 0 = payload w }

@@ -2,7 +2,8 @@
 ghost use mathlib.Core.Path.{_≡_};
 ghost use Prim.Native.Nat.{_+_, _*_, _<_, _≤_, _^_, _/_, _%_};
 ghost use lib.Dec.{eqb};
-ghost use Rattle.words.specs.Words.{bits, signed, signedBy, kindOf, payload, word, literals, literalsOf};
+ghost use Rattle.words.specs.Words.{bits, signed, signedBy, kindOf, payload, word, literalsOf};
+ghost use Rattle.words.specs.Making.{literals};
 ghost use Rattle.words.specs.Refusals.{number, value};
 
 // The most actions of a program.

@@ -39,7 +39,8 @@ use Rattle.verdict.specs.Verdicts.{ends as rangeEnds}
 use Rattle.judge.specs.Calls.{Judgement, judgeProgram, judge}
 use Rattle.judge.specs.declared.Judged.{Judged}
 use Rattle.judge.specs.declared.Judged.the-variants.{Safe, MayForbid, MayRunOff}
-use Rattle.worked.specs.Shows.{fade, fadeLemmas, fadeFirstZero, fadeOthers, house, houseLemmas, houseBefore, houseBehind}
+use Rattle.worked.specs.Shows.{fade, fadeLemmas, fadeOthers, house}
+use Rattle.worked.specs.MoreLemmas.{fadeFirstZero, houseLemmas, houseBefore, houseBehind}
 use Rattle.worked.proofs.Zeros.{Zeros, zeros-not-accepted}
 
 abbrev pub fadeRecords : List ℕ

@@ -1,11 +1,10 @@
--- The worked shows: their words, with each lemma on a line of its own, and the programs that the words are.
+-- The worked shows: their words, with Fade's lemmas, and the programs that the words are.
 --
--- fade, house, incident      — the logic in words
--- fadeFirst, fadeFirstZero, fadeOthers, fadeLemmas        — Fade's lemmas
--- houseBefore, houseFails, houseBehind, houseLemmas       — House's lemmas
--- row2, level                — a row of the first two variables; the range 0..1000
--- fadeProgram, houseProgram, incidentProgram              — the logic as a value
--- bytesOf                    — the bytes of words, the lowest first
+-- fade, house, incident — the logic in words
+-- fadeFirst, fadeOthers, fadeLemmas — Fade's lemmas: the first, those behind it, all
+-- row2, level — a row of the first two variables; the range 0..1000
+-- fadeProgram, houseProgram, incidentProgram — the logic as a value
+-- bytesOf — the bytes of words, the lowest first
 use mathlib.Core.List.{List, [], _∷_, _++_}
 use Prim.Native.Nat.{ℕ, _/_, _%_}
 use lib.IntN.{ℤ, pos, negsuc}
@@ -24,10 +23,6 @@ fade =
 -- its first lemma: action 0 leaves the level at least at its low end
 abbrev pub fadeFirst : List ℕ
 fadeFirst = 0x90030000 ∷ 0x80000000 ∷ 0xA0000001 ∷ 0xA0000001 ∷ []
-
--- the same with all multipliers 0
-abbrev pub fadeFirstZero : List ℕ
-fadeFirstZero = 0x90030000 ∷ 0x80000000 ∷ 0xA0000000 ∷ 0xA0000000 ∷ []
 
 abbrev pub fadeOthers : List ℕ
 fadeOthers =
@@ -51,45 +46,6 @@ house =
     ∷ 0x60000001 ∷ 0x70000001 ∷ 0x20000000
     ∷ 0x80000003
     ∷ 0xF0000000 ∷ []
-
--- its lemmas, in three parts: those before the one for action 0 that P0 fails afterwards
-abbrev pub houseBefore : List ℕ
-houseBefore =
-    0x9FF20000 ∷ 0x80000000 ∷ 0xA0000001 ∷ 0xA0000001 ∷ 0xA0000001
-    ∷ 0x9FF20001 ∷ 0x80000000 ∷ 0xA0000001 ∷ 0xA0000001 ∷ 0xA0000001
-    ∷ 0x90000000 ∷ 0x80000001 ∷ 0xA0000001 ∷ 0xA0000001
-    ∷ 0x90010000 ∷ 0x80000001 ∷ 0xA0000001 ∷ 0xA0000001 ∷ 0xA0000001 ∷ []
-
--- that one
-abbrev pub houseFails : List ℕ
-houseFails = 0x90020000 ∷ 0x80000000 ∷ 0xA0000001 ∷ 0xA0000001 ∷ []
-
--- and those behind it
-abbrev pub houseBehind : List ℕ
-houseBehind =
-    0x90010001 ∷ 0x80000000 ∷ 0xA0000001 ∷ 0xA0000001
-    ∷ 0x90020001 ∷ 0x80000001 ∷ 0xA0000001 ∷ 0xA0000001 ∷ 0xA0000001
-    ∷ 0x90030001 ∷ 0x80000000 ∷ 0xA0000001 ∷ 0xA0000001
-    ∷ 0x90040001 ∷ 0x80000000 ∷ 0xA0000001 ∷ 0xA0000001
-    ∷ 0x90100000 ∷ 0x80000002 ∷ 0xA0000001 ∷ 0xA0000001
-    ∷ 0x90110000 ∷ 0x80000000 ∷ 0xA0000001 ∷ 0xA0000001
-    ∷ 0x90110001 ∷ 0x80000002 ∷ 0xA0000001 ∷ 0xA0000001 ∷ 0xA0000001
-    ∷ 0x90120001 ∷ 0x80000000 ∷ 0xA0000001 ∷ 0xA0000001
-    ∷ 0x90130000 ∷ 0x80000000 ∷ 0xA0000001 ∷ 0xA0000001
-    ∷ 0x90140000 ∷ 0x80000000 ∷ 0xA0000001 ∷ 0xA0000001
-    ∷ 0x90220000 ∷ 0x80000000 ∷ 0xA0000001
-    ∷ 0x90210001 ∷ 0x80000002 ∷ 0xA0000001 ∷ 0xA0000001
-    ∷ 0x90220001 ∷ 0x80008000 ∷ 0xA0000001 ∷ 0xA0000001
-    ∷ 0x90230000 ∷ 0x80000000 ∷ 0xA0000001
-    ∷ 0x90240000 ∷ 0x80000000 ∷ 0xA0000001
-    ∷ 0x90310000 ∷ 0x80000001 ∷ 0xA0000001 ∷ 0xA0000001
-    ∷ 0x90320000 ∷ 0x80004000 ∷ 0xA0000001 ∷ 0xA0000001
-    ∷ 0x90320001 ∷ 0x80000000 ∷ 0xA0000001
-    ∷ 0x90330001 ∷ 0x80000000 ∷ 0xA0000001
-    ∷ 0x90340001 ∷ 0x80000000 ∷ 0xA0000001 ∷ []
-
-abbrev pub houseLemmas : List ℕ
-houseLemmas = houseBefore ++ (houseFails ++ houseBehind)
 
 -- The macro of the incident: a level of 5, and an action that takes 10 off with no guard.
 abbrev pub incident : List ℕ
