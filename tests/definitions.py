@@ -253,10 +253,14 @@ class Crates:
 
     def read_type(self, f, block, kind, section):
         head = tokens(block[0][2])
+        fields = 1
+        while "where" not in head:
+            head += tokens(block[fields][2])
+            fields += 1
         at = head.index(kind) + 1
         d = self.define(f, head[at], kind, block, "pub" in head[:at])
         walk = self.bound(section).add(head[at + 1:])
-        for _, _, line in block[1:]:
+        for _, _, line in block[fields:]:
             ts = [t for t in tokens(line) if t != "pub"]
             if ":" in ts and all(t not in LANGUAGE for t in ts[:ts.index(":")]) and ts[0] not in ("→", "×"):
                 names = ts[:ts.index(":")]
