@@ -32,7 +32,7 @@ pub enum Judged {
     Refused(Refusal),
 }
 
-// What is found first in a whole graph.
+// What is found first in a whole graph. The words stand for the program in the contract.
 fn first_finding(
     words: &[u32],
     image: Image,
@@ -45,7 +45,7 @@ fn first_finding(
     requires { ⌜ Held (now words) image × (n ≤ length (now premises)) × (n ≤ length (now keys)) × (graphWords ≤ length (now graph)) × ((ls : List Lemma) × (g : Graph) × (edges : ℕ) × Ready (theProgram (now words)) ls g (entries (now premises) (now keys) n) nodes edges (now graph)) ⌝ }
     ensures { λ r. ⌜ Within nodes r × ((ls : List Lemma) (g : Graph) (edges : ℕ) → Ready (theProgram (now (words .entry))) ls g (entries (now (premises .entry)) (now (keys .entry)) n) nodes edges (now (graph .entry)) → r ≡ foundOf (findings (theProgram (now (words .entry))) ls g)) ⌝ }
 {
-    let asked = verdict::asked_ends(words, image);
+    let asked = verdict::asked_ends(image);
     let literals = image.literals;
     let forbidden = image.forbidden;
     let actions = image.actions;

@@ -26,7 +26,7 @@ use Rattle.runs.proofs.LiteralRows.{premises-same}
 use Rattle.lemmas.specs.Lemmas.{Goal, CannotHappen, HoldsAfter, FailsAfter, NotBelow, NotAbove, goalNumber, goalOf, Lemma, START, negatedGoal, sourceRows, rowsOf}
 use Rattle.lemmas.specs.LemmaGrammar.{setsVariable, goalAllowed, headAllowed, premisesAllowed, lemmaOf}
 use Rattle.lemmas.specs.Sources.{theProgram, Held, shapeOf, goalBy, headBy, premisesBy, oneIf, literalCount, rowCount}
-use Rattle.lemmas.specs.declared.Shape.{Shape}
+use Rattle.programs.specs.declared.Shape.{Shape}
 use Rattle.lemmas.proofs.LemmaLaws.{action-rising}
 use Rattle.lemmas.proofs.SourceLaws.{counts}
 

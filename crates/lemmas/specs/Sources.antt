@@ -2,7 +2,7 @@
 --
 -- programOf, theProgram  — the program that was read, that a list of words is; an empty one where it is none
 -- Held                   — a list is a program, and this is its image
--- sourceOf, shapeOf      — what a source offers; how many rows that are and which variables it sets
+-- sourceOf, shapeOf      — what a source offers; how many rows that are, and which variables it sets
 -- slotOf, Slotted        — the place of a source in a table of 18; the table has this of every source
 -- goalBy, headBy, premisesBy — what a lemma's first two words may say, by the program's counts and what the source sets
 -- oneIf, literalCount, rowCount — 1 where a test holds; how many literals a set has; how many rows a lemma has
@@ -30,13 +30,13 @@ use Rattle.programs.specs.Calls.{read}
 use Rattle.programs.specs.Images.{imageOf}
 use Rattle.programs.specs.Places.{places}
 use Rattle.programs.specs.declared.Image.{Image}
+use Rattle.programs.specs.declared.Shape.{Shape}
 use Rattle.programs.specs.declared.Status.the-variants.{Ready, Failed}
 use Rattle.words.specs.LiteralSets.{has}
 use Rattle.runs.specs.Runs.{actionOf}
 use Rattle.lemmas.specs.Lemmas.{goalNumber, Lemma, START, sourceRows, newRows}
 use Rattle.lemmas.specs.LemmaGrammar.{encodeLemma}
 use Rattle.lemmas.specs.declared.Source.{Source}
-use Rattle.lemmas.specs.declared.Shape.{Shape}
 use Rattle.lemmas.specs.declared.LemmaRead.{LemmaRead}
 use Rattle.lemmas.specs.declared.Begins.{Begins}
 use Rattle.lemmas.specs.declared.Listed.{Listed}
@@ -53,16 +53,10 @@ pub record Held (ws : List ℕ) (image : Image) : Type 0 where
   pub same : image ≡ imageOf (theProgram ws)
 
 abbrev pub sourceOf : Program → ℕ → Source
-sourceOf p s =
-    record {
-      count = length (sourceRows p s);
-      rows = sets zeroRows 0 (sourceRows p s);
-      new = newRows p s;
-      set = variablesSet noneSet (actionOf p s .sets);
-    }
+sourceOf p s = record { count = length (sourceRows p s); rows = sets zeroRows 0 (sourceRows p s); new = newRows p s }
 
 abbrev pub shapeOf : Program → ℕ → Shape
-shapeOf p s = record { count = sourceOf p s .count; set = sourceOf p s .set }
+shapeOf p s = record { count = length (sourceRows p s); set = variablesSet noneSet (actionOf p s .sets) }
 
 abbrev pub slotOf : ℕ → ℕ
 slotOf s = cond (ltb s 16) s (cond (eqb s START) 16 17)

@@ -4,15 +4,18 @@ ghost use Prim.Native.Nat.{_+_, _<_, _≤_};
 ghost use lib.ListN.{length, drop, getD, replicate};
 ghost use Rattle.words.specs.Words.{bits, LEMMA};
 ghost use Rattle.grammar.specs.Reading.{times, many, refused};
+ghost use Rattle.grammar.specs.Programs.{Program};
 ghost use mathlib.Core.Bool.{false, _||_};
 ghost use lib.Dec.{eqb, ltb};
 ghost use Rattle.lemmas.specs.Lemmas.{START};
 ghost use Rattle.reader.specs.Results.{nextOf};
+ghost use Rattle.programs.specs.Images.{imageOf};
 ghost use Rattle.words.specs.LiteralSets.{has};
 ghost use Rattle.lemmas.specs.LemmaGrammar.{multiplier, lemma, asLemma, readLemmas};
 ghost use Rattle.lemmas.specs.Sources.{theProgram, Held, sourceOf, shapeOf, slotOf, Slotted, goalBy, headBy, premisesBy, literalCount};
 ghost use Rattle.lemmas.specs.Sources.{rowCount, oneIf, lemmaRead, noBegins, beginsFrom, listed};
 use programs::Image;
+use programs::Shape;
 use programs::Status;
 use reader::Next;
 use rows::Row;
@@ -20,23 +23,17 @@ use words::Kind;
 use words::Literals;
 use words::Refusal;
 
-// What a lemma's source offers: its rows from place 0 on, each variable's row afterwards, and which variables it sets.
+// What a lemma's source offers: its rows from place 0 on, and each variable's row afterwards.
 pub struct Source {
     pub count: usize,
     pub rows: [Row; 14],
     pub new: [Row; 8],
-    pub set: [bool; 8],
 }
 
-fn offer(count: usize, rows: [Row; 14], new: [Row; 8], set: [bool; 8]) -> Source
-    ensures { λ r. ⌜ r ≡ record { count = count; rows = rows; new = new; set = set } ⌝ }
+fn offer(count: usize, rows: [Row; 14], new: [Row; 8]) -> Source
+    ensures { λ r. ⌜ r ≡ record { count = count; rows = rows; new = new } ⌝ }
 {
-    Source {
-        count,
-        rows,
-        new,
-        set,
-    }
+    Source { count, rows, new }
 }
 
 // The source of this number: an action, or 255 for the start. Another one offers nothing.
@@ -45,24 +42,22 @@ pub fn source_of(words: &[u32], image: Image, number: usize) -> Source
     ensures { λ r. ⌜ r ≡ sourceOf (theProgram (now (words .entry))) number ⌝ }
 {
     let new = actions::KEEP;
-    let set = [false; 8];
     if number == 255 {
         let rows = image.start;
-        return offer(image.starts, rows, new, set);
+        return offer(image.starts, rows, new);
     }
     if image.actions <= number {
         let blank = Row {
             coef: [0i64; 8],
             constant: 0,
         };
-        return offer(0, [blank; 14], new, set);
+        return offer(0, [blank; 14], new);
     }
     let at = image.action_at[number];
     let read = actions::read_action(words, at, image.vars, true);
     let rows = read.guard;
     let new = read.rows;
-    let set = read.set;
-    offer(read.guards, rows, new, set)
+    offer(read.guards, rows, new)
 }
 
 // The place of a source in a table of them: an action's number, 16 for the start, 17 for any other.
@@ -90,32 +85,19 @@ pub fn sources(words: &[u32], image: Image) -> [Source; 18]
     t
 }
 
-// What the reading of a lemma asks of its source: how many rows it offers, and which variables it sets.
-pub struct Shape {
-    pub count: usize,
-    pub set: [bool; 8],
-}
-
-fn shape_of(words: &[u32], image: Image, number: usize) -> Shape
-    requires { ⌜ Held (now words) image ⌝ }
-    ensures { λ r. ⌜ r ≡ shapeOf (theProgram (now (words .entry))) number ⌝ }
+// What the reading of a lemma asks of each source: how many rows it offers, and which variables it sets. No word is read for it.
+fn shapes(image: Image) -> [Shape; 18]
+    ensures { λ r. ⌜ ((p : Program) → image ≡ imageOf p → length (p .actions) ≤ 16 → Slotted (shapeOf p) r) ⌝ }
 {
-    let source = source_of(words, image, number);
-    let count = source.count;
-    let set = source.set;
-    Shape { count, set }
-}
-
-// Every shape once.
-fn shapes(words: &[u32], image: Image) -> [Shape; 18]
-    requires { ⌜ Held (now words) image ⌝ }
-    ensures { λ r. ⌜ Slotted (shapeOf (theProgram (now (words .entry)))) r ⌝ }
-{
-    let mut t = [shape_of(words, image, 254); 18];
-    t[16] = shape_of(words, image, 255);
+    let set = [false; 8];
+    let none = Shape { count: 0, set };
+    let mut t = [none; 18];
+    let count = image.starts;
+    t[16] = Shape { count, set };
     let mut a: usize = 0;
     while a < 16 {
-        t[a] = shape_of(words, image, a);
+        let shape = image.shapes[a];
+        t[a] = shape;
         a += 1;
     }
     t
@@ -316,7 +298,7 @@ fn read_lemmas(words: &[u32], image: Image, lemmas: &[u32]) -> Begins
     requires { ⌜ Held (now words) image ⌝ }
     ensures { λ r. ⌜ r ≡ beginsFrom (replicate 512 0) 0 0 (many LEMMA (lemma (theProgram (now (words .entry)))) 512 (drop 0 (now (lemmas .entry))) 0) ⌝ }
 {
-    let t = shapes(words, image);
+    let t = shapes(image);
     let mut begin_at = [0usize; 512];
     let mut i: usize = 0;
     let mut k: usize = 0;

@@ -1,5 +1,5 @@
 -- The three loops of a program's reader: ranges, actions and forbidden combinations.
-use mathlib.Core.Path.{_≡_, refl, sym, _∙_}
+use mathlib.Core.Path.{_≡_, refl, sym, ap, _∙_}
 use mathlib.Core.Bool.{Bool, true, false}
 use mathlib.Core.List.{List, [], _∷_}
 use Prim.Native.Nat.{ℕ, suc, _+_, _-_, _≤_, _<_}
@@ -27,9 +27,10 @@ use Rattle.reader.proofs.Laws.{head-refused, head-taken}
 use Rattle.reader.proofs.RowsLoop.{answer-refused, answer-at, left-is, left-within}
 use Rattle.actions.specs.declared.ActionRead.{ActionRead}
 use Rattle.actions.specs.Results.{actionRead}
+use Rattle.programs.specs.declared.Shape.{Shape}
 use Rattle.programs.specs.declared.Actions.{Actions}
 use Rattle.programs.specs.declared.Forbidden.{Forbidden}
-use Rattle.programs.specs.Images.{rangesFrom, zeroRanges, noRanges, actionsFrom, noActions, forbiddenFrom, noForbidden}
+use Rattle.programs.specs.Images.{rangesFrom, zeroRanges, noRanges, actionShape, noneStored, actionsFrom, noActions, forbiddenFrom, noForbidden}
 use Rattle.programs.specs.Places.{places}
 use Rattle.programs.proofs.ManyLaws.{Loop, stopped, ended, turned, within-limit}
 
@@ -72,41 +73,43 @@ module _ (ws : List ℕ) {gs : List Range} {k : ℕ} (t : Loop VAR range 8 range
         let (room, item) = within-limit VAR range (drop k ws) k 8 k range-full taken in
         (room, turned VAR range 8 rangesFrom ws 0 zeroRanges t h room item (omega arith) (range-stored gs k k (k + 1) (rangeOf (getD ws k 0))))
 
--- ---- actions: where each begins is stored
+-- ---- actions: where each begins is stored, and its shape
 action-next : (m : Read Action) → actionRead m .next ≡ nextOf m
 action-next (got a us i) = refl
 action-next (refused x) = refl
 
-action-stored : (ns : List ℕ) (k i j : ℕ) (a : Action) (m : Read (List Action)) → j ≡ i + length (encodeAction a)
-    → actionsFrom ns k i (after m (λ rest. pure (a ∷ rest))) ≡ actionsFrom (set ns k i) (k + 1) j m
+action-stored : (s : List ℕ × List Shape) (k i j : ℕ) (a : Action) (x : Shape) (m : Read (List Action)) → j ≡ i + length (encodeAction a) → x ≡ actionShape a
+    → actionsFrom s k i (after m (λ rest. pure (a ∷ rest))) ≡ actionsFrom (set (s .0) k i, set (s .1) k x) (k + 1) j m
 unfolding places
-action-stored ns k i j a (got rest us l) e = rw (add-one k, one-more k (length rest), e) refl
-action-stored ns k i j a (refused x) e = refl
+action-stored s k i j a x (got rest us l) e f = rw (add-one k, one-more k (length rest), e, f) refl
+action-stored s k i j a x (refused r) e f = refl
 
 module _ (vars : ℕ) (few : vars ≤ 8) (ws : List ℕ) (at : ℕ) where
-  abbrev ActionsLoop : List ℕ → ℕ → ℕ → Type 0
-  ActionsLoop ns i k = Loop ACTION (action vars) 16 actionsFrom ws at (replicate 16 0) ns i k
+  abbrev ActionsLoop : List ℕ × List Shape → ℕ → ℕ → Type 0
+  ActionsLoop s i k = Loop ACTION (action vars) 16 actionsFrom ws at noneStored s i k
 
   abbrev actionsAnswer : Actions
-  actionsAnswer = actionsFrom (replicate 16 0) 0 at (many ACTION (action vars) 16 (drop at ws) at)
+  actionsAnswer = actionsFrom noneStored 0 at (many ACTION (action vars) 16 (drop at ws) at)
 
-  module _ {ns : List ℕ} {i k : ℕ} (t : ActionsLoop ns i k) where
-    pub actions-ended : begins ACTION (drop i ws) ≡ false → record { «begin_at» = ns; count = k; next = At i } ≡ actionsAnswer
+  module _ {s : List ℕ × List Shape} {i k : ℕ} (t : ActionsLoop s i k) where
+    pub actions-ended : begins ACTION (drop i ws) ≡ false → record { «begin_at» = s .0; shapes = s .1; count = k; next = At i } ≡ actionsAnswer
     unfolding places
-    actions-ended h = (λ d. record { «begin_at» = ns; count = sym (add-zero k) d; next = At i }) ∙ ended ACTION (action vars) 16 actionsFrom ws at (replicate 16 0) t h
+    actions-ended h =
+        (λ d. record { «begin_at» = s .0; shapes = s .1; count = sym (add-zero k) d; next = At i }) ∙ ended ACTION (action vars) 16 actionsFrom ws at noneStored t h
 
     module _ (h : begins ACTION (drop i ws) ≡ true) {x : ActionRead} (e : x ≡ actionRead (action vars (ltb k 16) (drop i ws) i)) where
       pub actions-stopped : {r : Refusal} → x .next ≡ Stopped r → noActions r ≡ actionsAnswer
-      actions-stopped p = stopped ACTION (action vars) 16 actionsFrom ws at (replicate 16 0) t h (answer-refused actionRead (λ y. y .next) action-next _ e p)
+      actions-stopped p = stopped ACTION (action vars) 16 actionsFrom ws at noneStored t h (answer-refused actionRead (λ y. y .next) action-next _ e p)
 
-      pub action-turned : {j : ℕ} → x .next ≡ At j → (k < 16) × ActionsLoop (set ns k i) j (k + 1)
+      pub action-turned : {j : ℕ} → x .next ≡ At j → (k < 16) × ActionsLoop (set (s .0) k i, set (s .1) k (record { count = x .guards; set = x .set })) j (k + 1)
       action-turned {j} p = answer-at actionRead (λ y. y .next) action-next _ e p (λ a us q w.
           let (room, item) = within-limit ACTION (action vars) (drop i ws) i 16 k (action-full vars few) q in
           let o = action-codec vars few .out (drop i ws) i a us j item in
-          let rest = left-is ws (t .here) o in (
+          let rest = left-is ws (t .here) o in
+          let shape : record { count = x .guards; set = x .set } ≡ actionShape a = ap (λ (y : ActionRead). record { count = y .guards; set = y .set }) w in (
             room,
-            turned ACTION (action vars) 16 actionsFrom ws at (replicate 16 0) t h room (rw rest at item) (left-within ws (t .here) o)
-                (λ m. action-stored ns k i j a m (o .place)),
+            turned ACTION (action vars) 16 actionsFrom ws at noneStored t h room (rw rest at item) (left-within ws (t .here) o)
+                (λ m. action-stored s k i j a _ m (o .place) shape),
           ))
 
 -- ---- forbidden combinations

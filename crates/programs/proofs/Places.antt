@@ -5,8 +5,8 @@ use mathlib.Core.List.{List, [], _∷_, _++_, append-assoc}
 use Prim.Native.Nat.{ℕ, zero, suc, _+_, _-_, _≤_, _<_}
 use native.Mathlib.Omega.{arith}
 use native.Mathlib.Nat.{not-suc-le-zero, le-of-suc-le-suc}
-use lib.ListN.{length, getD, take, drop, replicate, length-append, length-drop, length-replicate, List·getD-append}
-use lib.Seq.{sets, sets-eq, drop-append-seam, take-append-seam, drop-drop}
+use lib.ListN.{length, getD, take, drop, replicate, length-append, length-drop, length-replicate, getD-replicate, List·getD-append}
+use lib.Seq.{sets, sets-eq, getD-append-add, getD-drop, drop-append-seam, take-append-seam, drop-drop}
 use Rattle.words.specs.Words.{TERM, INIT, PRED}
 use Rattle.grammar.specs.Reading.{Reader, got, begins}
 use Rattle.grammar.specs.Programs.{Action, Program}
@@ -28,12 +28,22 @@ module _ {A : Type 0} (e : A → List ℕ) where
   length-places i [] = refl
   length-places i (x ∷ xs) = ap suc (length-places (i + length (e x)) xs)
 
--- a place of a table that was filled from the front
+-- a place of a table that was filled from the front, and one past what it was filled with
 module _ {A : Type 0} (n : ℕ) (a : A) (xs : List A) (k : ℕ) (d : A) where
   pub stored-at : k < length xs → length xs ≤ n → getD (sets (replicate n a) 0 xs) k d ≡ getD xs k d
   stored-at h l =
       let room : 0 + length xs ≤ length (replicate n a) = simp length-replicate (omega arith) in
       ap (λ (m : List A). getD m k d) (sets-eq xs (replicate n a) 0 room) ∙ List·getD-append xs (drop (0 + length xs) (replicate n a)) d k h
+
+  pub blank-at : length xs ≤ k → k < n → getD (sets (replicate n a) 0 xs) k d ≡ a
+  blank-at h l =
+      let room : 0 + length xs ≤ length (replicate n a) = simp length-replicate (omega arith) in
+      let i = k - length xs in
+      let there : k ≡ length xs + i = omega arith in
+      let past : 0 + length xs + i ≡ k = omega arith in
+      let rest = drop (0 + length xs) (replicate n a) in
+      ap (λ (m : List A). getD m k d) (sets-eq xs (replicate n a) 0 room) ∙ ap (λ (m : ℕ). getD (xs ++ rest) m d) there ∙ getD-append-add xs rest i d
+      ∙ getD-drop (0 + length xs) (replicate n a) i d ∙ ap (λ (m : ℕ). getD (replicate n a) m d) past ∙ getD-replicate n k a d l
 
 -- the k-th of some items whose words stand from index i on
 module _ {A : Type 0} {item : Reader A} {e : A → List ℕ} {P : A → Type 0} (c : Codec item e P) (d : A) (ws tail : List ℕ) (free : begins TERM tail ≡ false) where

@@ -1,7 +1,7 @@
 -- The parts of a program, one after the other, by the answers of their readers.
 use mathlib.Core.Path.{_≡_, refl, sym, ap, _∙_}
 use mathlib.Core.Bool.{false}
-use mathlib.Core.List.{List}
+use mathlib.Core.List.{List, map}
 use Prim.Native.Nat.{ℕ, _+_, _^_, _≤_, _<_}
 use native.Mathlib.Omega.{arith}
 use native.Mathlib.Nat.{zero-add}
@@ -28,9 +28,10 @@ use Rattle.reader.proofs.Laws.{next-refused, next-at}
 use Rattle.reader.proofs.RowsLoop.{answer-refused, answer-at, left-is, left-within}
 use Rattle.programs.specs.declared.Ranges.{Ranges}
 use Rattle.programs.specs.declared.Counted.{Counted}
+use Rattle.programs.specs.declared.Shape.{Shape}
 use Rattle.programs.specs.declared.Actions.{Actions}
 use Rattle.programs.specs.declared.Forbidden.{Forbidden}
-use Rattle.programs.specs.Images.{rangesFrom, zeroRanges, countedRead, actionsFrom, forbiddenFrom, Rest, rest, imageWith, restLoaded}
+use Rattle.programs.specs.Images.{rangesFrom, zeroRanges, countedRead, noShape, actionShape, noneStored, actionsFrom, forbiddenFrom, Rest, rest, imageWith, restLoaded}
 use Rattle.programs.specs.Places.{places}
 
 -- ---- what each reader's answer says
@@ -42,7 +43,7 @@ counted-next : (m : Read (List Row)) → countedRead m .next ≡ nextOf m
 counted-next (got rs us i) = refl
 counted-next (refused x) = refl
 
-actions-next : (at : ℕ) (m : Read (List Action)) → actionsFrom (replicate 16 0) 0 at m .next ≡ nextOf m
+actions-next : (at : ℕ) (m : Read (List Action)) → actionsFrom noneStored 0 at m .next ≡ nextOf m
 actions-next at (got xs us i) = refl
 actions-next at (refused x) = refl
 
@@ -106,9 +107,9 @@ module _ (ws : List ℕ) (kind most vars i : ℕ) {x : Counted} (e : x ≡ count
         },
       ))
 
-image-same : (gs : Ranges) (start ps : Counted) {ns ns′ : List ℕ} {n n′ : ℕ} {ls ls′ : List Literals} {m m′ : ℕ} → ns ≡ ns′ → n ≡ n′ → ls ≡ ls′ → m ≡ m′
-    → imageWith gs start ps ns n ls m ≡ imageWith gs start ps ns′ n′ ls′ m′
-image-same gs start ps a b c d = λ i. imageWith gs start ps (a i) (b i) (c i) (d i)
+image-same : (gs : Ranges) (start ps : Counted) {ns ns′ : List ℕ} {ss ss′ : List Shape} {n n′ : ℕ} {ls ls′ : List Literals} {m m′ : ℕ} → ns ≡ ns′ → ss ≡ ss′ → n ≡ n′ → ls ≡ ls′ → m ≡ m′
+    → imageWith gs start ps ns ss n ls m ≡ imageWith gs start ps ns′ ss′ n′ ls′ m′
+image-same gs start ps a s b c d = λ i. imageWith gs start ps (a i) (s i) (b i) (c i) (d i)
 
 all-read : (vars preds : ℕ) (ws : List ℕ) (at : ℕ) {xs : List Action} {ls : List Literals} {u₁ u₂ u₃ : List ℕ} {j k z i : ℕ} → many ACTION (action vars) 16 ws at ≡ got xs u₁ j
     → many SETS (combination preds) 8 u₁ j ≡ got ls u₂ k → end u₂ k ≡ got z u₃ i → rest vars preds ws at ≡ got (record { actions = xs; forbidden = ls }) u₃ i
@@ -116,23 +117,24 @@ unfolding rest
 all-read vars preds ws at a b c = rw (a, b, c) refl
 
 -- ---- the actions, the forbidden combinations and the end, from index `at` on
-module _ (vars preds : ℕ) (few : vars ≤ 8) (ws : List ℕ) (at : ℕ) (l : at ≤ length ws) {x : Actions} (e : x ≡ actionsFrom (replicate 16 0) 0 at (many ACTION (action vars) 16 (drop at ws) at)) where
+module _ (vars preds : ℕ) (few : vars ≤ 8) (ws : List ℕ) (at : ℕ) (l : at ≤ length ws) {x : Actions} (e : x ≡ actionsFrom noneStored 0 at (many ACTION (action vars) 16 (drop at ws) at)) where
   abbrev whole : Read Rest
   whole = rest vars preds (drop at ws) at
 
   pub actions-refused : {r : Refusal} → x .next ≡ Stopped r → whole ≡ refused r
   unfolding rest
-  actions-refused h = let q = answer-refused (actionsFrom (replicate 16 0) 0 at) (λ y. y .next) (actions-next at) (many ACTION (action vars) 16 (drop at ws) at) e h in rw q refl
+  actions-refused h = let q = answer-refused (actionsFrom noneStored 0 at) (λ y. y .next) (actions-next at) (many ACTION (action vars) 16 (drop at ws) at) e h in rw q refl
 
   module _ {j : ℕ} (h : x .next ≡ At j) where
     abbrev ActionsAt : List Action → Type 0
-    ActionsAt xs = (many ACTION (action vars) 16 (drop at ws) at ≡ got xs (drop j ws) j) × (j ≤ length ws) × (x .«begin_at» ≡ sets (replicate 16 0) 0 (places encodeAction at xs)) × (x .count ≡ length xs)
+    ActionsAt xs = (many ACTION (action vars) 16 (drop at ws) at ≡ got xs (drop j ws) j) × (j ≤ length ws) × (x .«begin_at» ≡ sets (replicate 16 0) 0 (places encodeAction at xs))
+        × (x .shapes ≡ sets (replicate 16 noShape) 0 (map actionShape xs)) × (x .count ≡ length xs)
 
     actions-at : (xs : List Action) × ActionsAt xs
-    actions-at = answer-at (actionsFrom (replicate 16 0) 0 at) (λ y. y .next) (actions-next at) (many ACTION (action vars) 16 (drop at ws) at) e h (λ xs us q w.
+    actions-at = answer-at (actionsFrom noneStored 0 at) (λ y. y .next) (actions-next at) (many ACTION (action vars) 16 (drop at ws) at) e h (λ xs us q w.
         let t = many-out ACTION (action vars) (action-codec vars few) (action-full vars few) 16 (drop at ws) at xs us j q in
         let left = left-is ws l t in
-        (xs, (rw left at q, left-within ws l t, ap (λ (y : Actions). y .«begin_at») w, ap (λ (y : Actions). y .count) w ∙ zero-add (length xs))))
+        (xs, (rw left at q, left-within ws l t, ap (λ (y : Actions). y .«begin_at») w, ap (λ (y : Actions). y .shapes) w, ap (λ (y : Actions). y .count) w ∙ zero-add (length xs))))
 
     pub actions-within : j ≤ length ws
     actions-within = actions-at .1 .1
@@ -162,9 +164,9 @@ module _ (vars preds : ℕ) (few : vars ≤ 8) (ws : List ℕ) (at : ℕ) (l : a
         end-stopped p = rw (actions-at .1 .0, forbidden-at .1 .0, next-refused (end (drop k ws) k) p) refl
 
         pub rest-read : (gs : Ranges) (start ps : Counted) {i : ℕ} → nextOf (end (drop k ws) k) ≡ At i
-            → imageWith gs start ps (x .«begin_at») (x .count) (y .literals) (y .count) ≡ restLoaded gs start ps whole at
+            → imageWith gs start ps (x .«begin_at») (x .shapes) (x .count) (y .literals) (y .count) ≡ restLoaded gs start ps whole at
         rest-read gs start ps {i} p =
             let (z, us, q) = next-at (end (drop k ws) k) p in
-            let (a₁, a₂, a₃, a₄) = actions-at .1 in
+            let (a₁, a₂, a₃, a₄, a₅) = actions-at .1 in
             let (b₁, b₂, b₃, b₄) = forbidden-at .1 in
-            image-same gs start ps a₃ a₄ b₃ b₄ ∙ ap (λ (m : Read Rest). restLoaded gs start ps m at) (sym (all-read vars preds (drop at ws) at a₁ b₁ q))
+            image-same gs start ps a₃ a₄ a₅ b₃ b₄ ∙ ap (λ (m : Read Rest). restLoaded gs start ps m at) (sym (all-read vars preds (drop at ws) at a₁ b₁ q))

@@ -3,12 +3,13 @@
 --
 -- zeroRanges, noRanges, rangesFrom      — ranges
 -- countedRead                           — rows after INIT or PRED
--- noActions, actionsFrom                — where actions begin
+-- noShape, actionShape                  — how many guard rows an action has and which variables it sets; of no action
+-- noActions, noneStored, actionsFrom    — where actions begin, and their shapes
 -- noForbidden, forbiddenFrom            — forbidden combinations
 -- imageOf, noImage, loaded              — the image of a program
 -- placeOf                               — the index where reading goes on
 -- Rest, rest, imageWith, restLoaded     — what follows the predicates, and the image with it
-use mathlib.Core.List.{List}
+use mathlib.Core.List.{List, map}
 use Prim.Native.Nat.{ℕ, _+_}
 use lib.ListN.{length, replicate}
 use lib.Seq.{sets}
@@ -26,9 +27,11 @@ use Rattle.reader.specs.declared.Next.{Next}
 use Rattle.reader.specs.declared.Next.the-variants.{At}
 use Rattle.reader.specs.declared.Next.the-variants.{Refused as Stopped}
 use Rattle.reader.specs.Results.{zeroRows}
+use Rattle.actions.specs.Results.{variablesSet, noneSet}
 use Rattle.programs.specs.Places.{places, firstAction}
 use Rattle.programs.specs.declared.Ranges.{Ranges}
 use Rattle.programs.specs.declared.Counted.{Counted}
+use Rattle.programs.specs.declared.Shape.{Shape}
 use Rattle.programs.specs.declared.Actions.{Actions}
 use Rattle.programs.specs.declared.Forbidden.{Forbidden}
 use Rattle.programs.specs.declared.Image.{Image}
@@ -50,12 +53,22 @@ abbrev pub countedRead : Read (List Row) → Counted
 countedRead (got rs ws i) = record { rows = sets zeroRows 0 rs; count = length rs; next = At i }
 countedRead (refused x) = record { rows = zeroRows; count = 0; next = Stopped x }
 
-abbrev pub noActions : Refusal → Actions
-noActions x = record { «begin_at» = replicate 16 0; count = 0; next = Stopped x }
+abbrev pub noShape : Shape
+noShape = record { count = 0; set = noneSet }
 
-abbrev pub actionsFrom : List ℕ → ℕ → ℕ → Read (List Action) → Actions
-actionsFrom ns k i (got xs ws j) = record { «begin_at» = sets ns k (places encodeAction i xs); count = k + length xs; next = At j }
-actionsFrom ns k i (refused x) = noActions x
+abbrev pub actionShape : Action → Shape
+actionShape a = record { count = length (a .guards); set = variablesSet noneSet (a .sets) }
+
+abbrev pub noneStored : List ℕ × List Shape
+noneStored = (replicate 16 0, replicate 16 noShape)
+
+abbrev pub noActions : Refusal → Actions
+noActions x = record { «begin_at» = noneStored .0; shapes = noneStored .1; count = 0; next = Stopped x }
+
+abbrev pub actionsFrom : List ℕ × List Shape → ℕ → ℕ → Read (List Action) → Actions
+actionsFrom s k i (got xs ws j) =
+    record { «begin_at» = sets (s .0) k (places encodeAction i xs); shapes = sets (s .1) k (map actionShape xs); count = k + length xs; next = At j }
+actionsFrom s k i (refused x) = noActions x
 
 abbrev pub noForbidden : Refusal → Forbidden
 noForbidden x = record { literals = replicate 8 noLiterals; count = 0; next = Stopped x }
@@ -75,6 +88,7 @@ imageOf p =
       pred = sets zeroRows 0 (p .predicates);
       actions = length (p .actions);
       «action_at» = sets (replicate 16 0) 0 (places encodeAction (firstAction p) (p .actions));
+      shapes = sets (replicate 16 noShape) 0 (map actionShape (p .actions));
       forbidden = length (p .forbidden);
       literals = sets (replicate 8 noLiterals) 0 (p .forbidden);
     }
@@ -90,6 +104,7 @@ noImage =
       pred = zeroRows;
       actions = 0;
       «action_at» = replicate 16 0;
+      shapes = replicate 16 noShape;
       forbidden = 0;
       literals = replicate 8 noLiterals;
     }
@@ -115,8 +130,8 @@ rest vars preds = do
   pure (record { actions = xs; forbidden = ls })
 
 -- the image of parts that have been read
-abbrev pub imageWith : Ranges → Counted → Counted → List ℕ → ℕ → List Literals → ℕ → Loaded
-imageWith gs start preds places actions literals forbidden =
+abbrev pub imageWith : Ranges → Counted → Counted → List ℕ → List Shape → ℕ → List Literals → ℕ → Loaded
+imageWith gs start preds places shapes actions literals forbidden =
     record {
       status = Ready;
       image = record {
@@ -128,6 +143,7 @@ imageWith gs start preds places actions literals forbidden =
         pred = preds .rows;
         actions = actions;
         «action_at» = places;
+        shapes = shapes;
         forbidden = forbidden;
         literals = literals;
       };
@@ -136,6 +152,6 @@ imageWith gs start preds places actions literals forbidden =
 -- the image with what was read before and what follows
 abbrev pub restLoaded : Ranges → Counted → Counted → Read Rest → ℕ → Loaded
 restLoaded gs start preds (got r ws i) at =
-    imageWith gs start preds (sets (replicate 16 0) 0 (places encodeAction at (r .actions))) (length (r .actions))
-    (sets (replicate 8 noLiterals) 0 (r .forbidden)) (length (r .forbidden))
+    imageWith gs start preds (sets (replicate 16 0) 0 (places encodeAction at (r .actions))) (sets (replicate 16 noShape) 0 (map actionShape (r .actions)))
+    (length (r .actions)) (sets (replicate 8 noLiterals) 0 (r .forbidden)) (length (r .forbidden))
 restLoaded gs start preds (refused x) at = record { status = Failed x; image = noImage }

@@ -7,7 +7,7 @@ ghost use Rattle.grammar.specs.Reading.{many, refused};
 ghost use Rattle.grammar.specs.Grammar.{ranges, rows, action, combination, literalsAllowed, end};
 ghost use Rattle.reader.specs.Results.{nextOf};
 ghost use Rattle.programs.specs.Calls.{read, check, actionPart, PartOf, partPlace, StandsAt, wordAt};
-ghost use Rattle.programs.specs.Images.{noRanges, rangesFrom, zeroRanges, countedRead, noActions, actionsFrom, noForbidden, forbiddenFrom};
+ghost use Rattle.programs.specs.Images.{noRanges, rangesFrom, zeroRanges, countedRead, noActions, noneStored, actionsFrom, noForbidden, forbiddenFrom};
 ghost use Rattle.programs.specs.Images.{loaded, placeOf, rest, restLoaded};
 ghost use Rattle.programs.specs.declared.Status.the-variants.{Ready};
 use reader::Next;
@@ -109,9 +109,16 @@ fn no_rows(why: Refusal) -> Counted
     }
 }
 
-// Where each action begins, how many there are, and where reading goes on.
+// How many rows there are to go by before, an action's guards, and which variables are set.
+pub struct Shape {
+    pub count: usize,
+    pub set: [bool; 8],
+}
+
+// Where each action begins and its shape, how many there are, and where reading goes on.
 pub struct Actions {
     pub begin_at: [usize; 16],
+    pub shapes: [Shape; 16],
     pub count: usize,
     pub next: Next,
 }
@@ -119,8 +126,13 @@ pub struct Actions {
 fn no_actions(why: Refusal) -> Actions
     ensures { λ r. ⌜ r ≡ noActions why ⌝ }
 {
+    let blank = Shape {
+        count: 0,
+        set: [false; 8],
+    };
     Actions {
         begin_at: [0; 16],
+        shapes: [blank; 16],
         count: 0,
         next: Next::Refused(why),
     }
@@ -129,9 +141,14 @@ fn no_actions(why: Refusal) -> Actions
 // The 0 to 16 actions from an index on.
 fn read_actions(words: &[u32], at: usize, vars: usize) -> Actions
     requires { ⌜ (vars ≤ 8) × (at ≤ length (now words)) ⌝ }
-    ensures { λ r. ⌜ r ≡ actionsFrom (replicate 16 0) 0 at (many ACTION (action vars) 16 (drop at (now (words .entry))) at) ⌝ }
+    ensures { λ r. ⌜ r ≡ actionsFrom noneStored 0 at (many ACTION (action vars) 16 (drop at (now (words .entry))) at) ⌝ }
 {
+    let blank = Shape {
+        count: 0,
+        set: [false; 8],
+    };
     let mut begin_at = [0usize; 16];
+    let mut shapes = [blank; 16];
     let mut i = at;
     let mut k: usize = 0;
     while reader::begins(words, i, Kind::ACTION) {
@@ -142,7 +159,10 @@ fn read_actions(words: &[u32], at: usize, vars: usize) -> Actions
                 return no_actions(why);
             }
             Next::At(j) => {
+                let count = read.guards;
+                let set = read.set;
                 begin_at[k] = i;
+                shapes[k] = Shape { count, set };
                 i = j;
                 k += 1;
             }
@@ -150,6 +170,7 @@ fn read_actions(words: &[u32], at: usize, vars: usize) -> Actions
     }
     Actions {
         begin_at,
+        shapes,
         count: k,
         next: Next::At(i),
     }
@@ -241,7 +262,8 @@ pub enum Status {
     Failed(Refusal),
 }
 
-// A program as the calls work on it: its ranges, start rows, predicates and forbidden combinations, and where each action begins in the list.
+// A program as the calls work on it: its ranges, start rows, predicates and forbidden combinations, and of each action where it begins in the list and its
+// shape.
 pub struct Image {
     pub vars: usize,
     pub ranges: [Range; 8],
@@ -251,6 +273,7 @@ pub struct Image {
     pub pred: [Row; 14],
     pub actions: usize,
     pub action_at: [usize; 16],
+    pub shapes: [Shape; 16],
     pub forbidden: usize,
     pub literals: [Literals; 8],
 }
@@ -282,6 +305,10 @@ fn no_image(why: Refusal) -> Loaded
         coef: [0i64; 8],
         constant: 0,
     };
+    let unshaped = Shape {
+        count: 0,
+        set: [false; 8],
+    };
     let image = Image {
         vars: 0,
         ranges: [zero; 8],
@@ -291,6 +318,7 @@ fn no_image(why: Refusal) -> Loaded
         pred: [blank; 14],
         actions: 0,
         action_at: [0; 16],
+        shapes: [unshaped; 16],
         forbidden: 0,
         literals: [Literals::EMPTY; 8],
     };
@@ -365,6 +393,7 @@ fn load_rest(words: &[u32], at: usize, ranges: Ranges, start: Counted, preds: Co
     let start_rows = start.rows;
     let pred_rows = preds.rows;
     let begin_at = actions.begin_at;
+    let shapes = actions.shapes;
     let literals = forbidden.literals;
     let image = Image {
         vars: ranges.count,
@@ -375,6 +404,7 @@ fn load_rest(words: &[u32], at: usize, ranges: Ranges, start: Counted, preds: Co
         pred: pred_rows,
         actions: actions.count,
         action_at: begin_at,
+        shapes,
         forbidden: forbidden.count,
         literals,
     };

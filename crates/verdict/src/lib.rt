@@ -6,7 +6,7 @@ ghost use lib.ListN.{length, drop, take};
 ghost use Rattle.words.specs.Words.{word, STEP};
 ghost use Rattle.grammar.specs.Programs.{Program};
 ghost use Rattle.lemmas.specs.Lemmas.{Lemma};
-ghost use Rattle.lemmas.specs.Sources.{theProgram, Held};
+ghost use Rattle.programs.specs.Images.{imageOf};
 ghost use Rattle.gather.specs.Gathering.{entries, successorOf};
 ghost use Rattle.search.specs.Search.{Graph, Done, count};
 ghost use Rattle.records.specs.Records.{mostNodes, graphWords, graphList};
@@ -105,16 +105,16 @@ fn ends_of(set: [bool; 8]) -> u64
 }
 
 // For each action the places of the range ends that it has to be shown to keep to: both of each variable that it sets.
-pub fn asked_ends(words: &[u32], image: Image) -> [u64; 16]
-    requires { ⌜ Held (now words) image ⌝ }
-    ensures { λ r. ⌜ r ≡ askedEnds (theProgram (now (words .entry))) ⌝ }
+pub fn asked_ends(image: Image) -> [u64; 16]
+    requires { ⌜ image .actions ≤ 16 ⌝ }
+    ensures { λ r. ⌜ ((p : Program) → image ≡ imageOf p → r ≡ askedEnds p) ⌝ }
 {
     let mut asked = [0u64; 16];
     let actions = image.actions;
     let mut action: usize = 0;
     while action < actions {
-        let source = lemmas::source_of(words, image, action);
-        let set = source.set;
+        let shape = image.shapes[action];
+        let set = shape.set;
         asked[action] = ends_of(set);
         action += 1;
     }

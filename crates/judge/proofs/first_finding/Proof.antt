@@ -5,7 +5,9 @@ use Rattle.judge.proofs.first_finding.Statement.{statement}
 use Rattle.judge.proofs.first_finding.Tie as tie
 
 asked-ends-requires : tie.Need-asked-ends-requires
-asked-ends-requires c κs = search needs
+asked-ends-requires c κs =
+    let s = c .before .before .before .before in
+    image-few (s .args .words .now) (s .pre .0) (s .pre .4 .0) (s .pre .4 .1) (s .pre .4 .3) .1
 
 first-finding-requires : tie.Need-first-finding-requires
 first-finding-requires c κs =
@@ -17,7 +19,9 @@ returns : tie.Need-returns
 returns c =
     let a = c .before .before in
     let s = a .before .before .before .before .before in
-    (c .first-finding .ensures .0, λ ls g edges r. c .first-finding .ensures .1 (theProgram (s .args .words .now)) ls g (judging (s .args .words .now) (s .pre .0) ls g r (a .asked-ends .ensures)) (r .nodes-are))
+    let p = theProgram (s .args .words .now) in
+    let asked = a .asked-ends .ensures p (s .pre .0 .same) in
+    (c .first-finding .ensures .0, λ ls g edges r. c .first-finding .ensures .1 p ls g (judging (s .args .words .now) (s .pre .0) ls g r asked) (r .nodes-are))
 
 pub first-finding-spec : {M : Type 1} → statement M
 first-finding-spec = tie.close (tie.spec asked-ends-requires first-finding-requires returns)

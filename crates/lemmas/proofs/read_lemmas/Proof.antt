@@ -55,7 +55,9 @@ read-lemma-requires c κs =
     let s = c .before in
     let l = s .before .before .before .before .before in
     let f = l .before .before .before .before in
-    (f .pre, l .loop .inv .here, slot-read (shapeOf (theProgram (f .args .words .now))) (l .before .shapes .result) _ (l .before .shapes .ensures) (s .slot .ensures .0) (s .before .source .ensures) (s .before .before .word-at .ensures))
+    let p = theProgram (f .args .words .now) in
+    let shapes = l .before .shapes .ensures p (f .pre .same) (f .pre .accepted .good .actions .few) in
+    (f .pre, l .loop .inv .here, slot-read (shapeOf p) (l .before .shapes .result) _ shapes (s .slot .ensures .0) (s .before .source .ensures) (s .before .before .word-at .ensures))
 
 enum-known-next : tie.Need-enum-known-next Inv-loop μ-loop
 enum-known-next c = search needs

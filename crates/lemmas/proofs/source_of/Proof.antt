@@ -46,7 +46,7 @@ offer-requires-3 c κs = search needs
 
 returns-3 : tie.Need-returns-3
 returns-3 c =
-    let r = c .before .before .before .before in
+    let r = c .before .before .before in
     let q = r .before .before in
     let f = q .before .before .before in
     c .offer3 .ensures ∙ action-source (f .args .words .now) (f .pre) (f .args .number) (q .before .if1 .left) (q .if2 .left) (r .read-action .ensures)

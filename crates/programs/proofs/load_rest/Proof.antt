@@ -93,10 +93,10 @@ ready-requires c κs = search needs
 
 returns-4 : tie.Need-returns-4
 returns-4 c =
-    let q = c .before .before .before .before .before .before .before .before in
+    let q = c .before .before .before .before .before .before .before .before .before in
     let l = q .before .before .before .before .before .before .before .before in
     let f = l .before .before in
-    c .ready .ensures ∙ rest-read (f .args .ranges .count) (f .args .preds .count) (f .pre .0) (f .args .words .now) (f .args .at) (f .pre .2) (l .read-actions .ensures) (q .before .before .before .before .before .before .enum-told .given .1) (forbidden-is (q .before .before .before .before)) (q .before .before .enum-told2 .given .1) (f .args .ranges) (f .args .start) (f .args .preds) (sym (end-is (q)) ∙ c .before .before .before .before .before .before .enum-told3 .given .1)
+    c .ready .ensures ∙ rest-read (f .args .ranges .count) (f .args .preds .count) (f .pre .0) (f .args .words .now) (f .args .at) (f .pre .2) (l .read-actions .ensures) (q .before .before .before .before .before .before .enum-told .given .1) (forbidden-is (q .before .before .before .before)) (q .before .before .enum-told2 .given .1) (f .args .ranges) (f .args .start) (f .args .preds) (sym (end-is (q)) ∙ c .before .before .before .before .before .before .before .enum-told3 .given .1)
 
 pub load-rest-spec : {M : Type 1} → statement M
 load-rest-spec =

@@ -1,36 +1,41 @@
 -- What is in the table, with what is still to come, is the whole: `Asking`. The measure is what is left of the actions.
-use mathlib.Core.Path.{ap, _∙_}
+use mathlib.Core.Path.{_≡_, ap, _∙_}
 use Prim.Native.Nat.{_-_}
 use native.Mathlib.Omega.{arith}
 use borrow.Author.Needs.{needs}
-use Rattle.lemmas.specs.Sources.{theProgram}
-use Rattle.lemmas.specs.declared.Source.{Source}
-use Rattle.lemmas.proofs.SourceLaws.{counts}
+use Rattle.grammar.specs.Programs.{Program}
+use Rattle.programs.specs.declared.Image.{Image}
+use Rattle.programs.specs.declared.Shape.{Shape}
+use Rattle.programs.specs.Images.{imageOf}
+use Rattle.lemmas.proofs.SourceLaws.{stored-shape}
 use Rattle.verdict.specs.Working.{endsTo}
 use Rattle.verdict.proofs.Asked.{Asking, asking-none, asking-next, asking-done}
 use Rattle.verdict.proofs.asked_ends.Statement.{statement}
 use Rattle.verdict.proofs.asked_ends.Tie as tie
 
 abbrev Inv-loop : tie.InvT-loop
-Inv-loop words image asked₀ actions action₀ asked action = Asking (theProgram words) asked action
+Inv-loop image asked₀ actions action₀ asked action = (p : Program) → image ≡ imageOf p → Asking p asked action
 
 abbrev μ-loop : tie.MeasureT-loop
-μ-loop words image asked₀ actions action₀ asked action = actions - action
+μ-loop image asked₀ actions action₀ asked action = actions - action
 
 loop-holds : tie.Need-loop-holds Inv-loop μ-loop
-loop-holds c = asking-none _
+loop-holds c = λ p same. asking-none p
 
-source-of-requires : tie.Need-source-of-requires Inv-loop μ-loop
-source-of-requires c κs = search needs
+mul-shape : tie.Need-mul-shape Inv-loop μ-loop
+mul-shape c = omega (arith, c .loop-test .taken, c .before .before .pre)
+
+element-copy-out-shape : tie.Need-element-copy-out-shape Inv-loop μ-loop
+element-copy-out-shape c = omega (arith, c .loop-test .taken, c .before .before .pre)
 
 ends-of-requires : tie.Need-ends-of-requires Inv-loop μ-loop
 ends-of-requires c κs = search needs
 
 mul-asked : tie.Need-mul-asked Inv-loop μ-loop
-mul-asked c = let t = c .before .before .before .before .before .before in omega (arith, counts (t .args .words .now) (t .pre) 0)
+mul-asked c = let l = c .before .before .before in omega (arith, l .loop-test .taken, l .before .before .pre)
 
 array-write-asked : tie.Need-array-write-asked Inv-loop μ-loop
-array-write-asked c = let t = c .before .before .before .before .before .before in omega (arith, counts (t .args .words .now) (t .pre) 0)
+array-write-asked c = let l = c .before .before .before in omega (arith, l .loop-test .taken, l .before .before .pre)
 
 add-action : tie.Need-add-action Inv-loop μ-loop
 add-action c = search needs
@@ -40,18 +45,19 @@ loop-less c = search needs
 
 loop-again : tie.Need-loop-again Inv-loop μ-loop
 loop-again c =
-    let l = c .before .before .before .before in
-    let t = l .before .before in
-    let ws = t .args .words .now in
-    asking-next (theProgram ws) (l .loop .asked) (l .loop .action) (l .loop .inv) (omega (arith, counts ws (t .pre) 0)) (c .ends-of .result)
-    (c .ends-of .ensures ∙ ap (λ (s : Source). endsTo (s .set) 8) (c .before .before .source-of .ensures))
+    let i = c .before .before .before in
+    let l = i .before in
+    λ p same.
+    let n = ap (λ (y : Image). y .actions) same in
+    asking-next p (l .loop .asked) (l .loop .action) (l .loop .inv p same) (omega (arith, i .loop-test .taken)) (c .ends-of .result)
+    (c .ends-of .ensures ∙ ap (λ (s : Shape). endsTo (s .set) 8) (stored-shape p (omega (arith, l .before .pre)) same (l .loop .action) _ (omega (arith, i .loop-test .taken))))
 
 returns : tie.Need-returns Inv-loop μ-loop
 returns c =
     let l = c .before in
-    let t = l .before .before in
-    let ws = t .args .words .now in
-    asking-done (theProgram ws) (l .loop .asked) (l .loop .action) (l .loop .inv) (omega (arith, counts ws (t .pre) 0))
+    λ p same.
+    let n = ap (λ (y : Image). y .actions) same in
+    asking-done p (l .loop .asked) (l .loop .action) (l .loop .inv p same) (omega (arith, c .loop-test .left))
 
 pub asked-ends-spec : {M : Type 1} → statement M
 asked-ends-spec =
@@ -60,7 +66,8 @@ asked-ends-spec =
     Inv-loop
     μ-loop
     loop-holds
-    source-of-requires
+    mul-shape
+    element-copy-out-shape
     ends-of-requires
     mul-asked
     array-write-asked
