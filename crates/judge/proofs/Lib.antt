@@ -2,5 +2,5 @@ pub mod Walks
 pub mod Promised
 pub mod Counted
 pub mod Judging
-pub mod Listing
+pub mod Surveying
 pub mod Whole

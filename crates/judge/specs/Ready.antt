@@ -1,26 +1,32 @@
 -- What the parts of Judge work on. Only contracts of functions within the project cite these.
 --
 -- Ready     — a list holds the graph of a program and its lemmas, whose accepted ones these tables hold
--- judgeList — Judge, of a program and lemmas that have been read
+-- entriesOf — the accepted lemmas that tables hold
+-- Complete  — image, tables and counts of a survey are those of the show in two lists of words, and the graph list holds the graph, which Judge judges
+-- SurveyBy, SurveyOf — what a survey comes to, by its status: complete, or refused as Judge refuses where both lists are long enough
 use mathlib.Core.Path.{_≡_}
-use mathlib.Core.Bool.{cond}
 use mathlib.Core.List.{List, map}
 use Prim.Native.Nat.{ℕ}
-use lib.Dec.{ltb}
 use lib.ListN.{length}
-use Rattle.words.specs.declared.Refusal.the-variants.{Sum}
 use Rattle.grammar.specs.Programs.{Program}
 use Rattle.grammar.specs.WellFormed.{Each, WellFormed}
+use Rattle.programs.specs.Calls.{read}
+use Rattle.programs.specs.declared.Status.{Status}
+use Rattle.programs.specs.declared.Status.the-variants.{Failed}
+use Rattle.programs.specs.declared.Status.the-variants.{Ready as IsReady}
 use Rattle.lemmas.specs.Lemmas.{Lemma}
 use Rattle.lemmas.specs.LemmaGrammar.{LemmaOk}
-use Rattle.gather.specs.Gathering.{Entry, entryOf}
+use Rattle.lemmas.specs.Sources.{theProgram, Held}
+use Rattle.gather.specs.Gathering.{Entry, entryOf, entries}
 use Rattle.search.specs.Search.{Graph, Done, count, links}
 use Rattle.records.specs.Records.{graphList}
 use Rattle.abstraction.specs.Abstraction.{graph}
 use Rattle.abstraction.specs.Claims.{claims}
-use Rattle.tables.specs.Off.{firstOff}
-use Rattle.judge.specs.Calls.{Judgement, keep, judgeGraph}
+use Rattle.tables.specs.Tabled.{theLemmas, Tabled}
+use Rattle.tables.specs.declared.Tables.{Tables}
+use Rattle.judge.specs.Calls.{keep, judgeGraph, judgeProgram}
 use Rattle.judge.specs.declared.Judged.the-variants.{Refused}
+use Rattle.judge.specs.declared.Surveyed.{Surveyed}
 
 pub record Ready (p : Program) (ls : List Lemma) (g : Graph) (es : List Entry) (nodes edges : ℕ) (l : List ℕ) : Type 0 where
   pub good : WellFormed p
@@ -32,5 +38,21 @@ pub record Ready (p : Program) (ls : List Lemma) (g : Graph) (es : List Entry) (
   pub before : List ℕ
   pub listed : l ≡ graphList (length (p .actions)) (Done g) before
 
-abbrev pub judgeList : Program → List Lemma → List ℕ → List ℕ → Judgement
-judgeList p ls gl pl = cond (ltb (firstOff p ls) (length ls)) (keep (Refused (Sum (firstOff p ls))) gl pl) (judgeGraph p ls (graph p ls) gl pl)
+abbrev pub entriesOf : Tables → List Entry
+entriesOf t = entries (t .premises) (t .keys) (t .count)
+
+pub record Complete (p : Program) (ls : List Lemma) (ws lemmas gl gl′ : List ℕ) (s : Surveyed) : Type 0 where
+  pub held : Held ws (s .image)
+  pub tabled : Tabled p ls (s .tables)
+  pub made : Graph
+  pub ready : Ready p ls made (entriesOf (s .tables)) (s .nodes) (s .edges) gl′
+  pub left : gl′ ≡ graphList (length (p .actions)) (Done made) gl
+  pub judged : (pl : List ℕ) → judgeProgram (read ws) lemmas gl pl ≡ judgeGraph p ls (Done made) gl pl
+
+-- the graph list was `gl` and is `gl′`
+abbrev pub SurveyBy : Status → List ℕ → List ℕ → List ℕ → List ℕ → Surveyed → Type 0
+SurveyBy IsReady ws lemmas gl gl′ s = Complete (theProgram ws) (theLemmas (theProgram ws) lemmas) ws lemmas gl gl′ s
+SurveyBy (Failed r) ws lemmas gl gl′ s = (pl : List ℕ) → judgeProgram (read ws) lemmas gl pl ≡ keep (Refused r) gl′ pl
+
+abbrev pub SurveyOf : List ℕ → List ℕ → List ℕ → List ℕ → Surveyed → Type 0
+SurveyOf ws lemmas gl gl′ s = SurveyBy (s .status) ws lemmas gl gl′ s

@@ -4,21 +4,22 @@ ghost use mathlib.Core.List.{List};
 ghost use Prim.Native.Nat.{ℕ, _<_, _≤_};
 ghost use lib.ListN.{length};
 ghost use Rattle.programs.specs.Calls.{read};
+ghost use Rattle.programs.specs.declared.Status.the-variants.{Failed};
 ghost use Rattle.lemmas.specs.Lemmas.{Lemma};
 ghost use Rattle.lemmas.specs.Sources.{theProgram, Held};
 ghost use Rattle.gather.specs.Gathering.{entries};
 ghost use Rattle.search.specs.Search.{Graph};
 ghost use Rattle.records.specs.Records.{graphWords};
-ghost use Rattle.tables.specs.Tabled.{theLemmas, Begun};
 ghost use Rattle.verdict.specs.Verdicts.{findings, pathWords, pathList};
 ghost use Rattle.verdict.specs.Working.{foundOf, Within};
 ghost use Rattle.judge.specs.Calls.{verdict, pathTo, judge};
 ghost use Rattle.judge.specs.Worth.{Demand2Of, SafeOf};
-ghost use Rattle.judge.specs.Ready.{Ready, judgeList};
+ghost use Rattle.judge.specs.Ready.{Ready, SurveyOf};
 ghost use Rattle.judge.specs.declared.Judged.the-variants.{Safe};
 use programs::Image;
 use programs::Status;
 use records::Explored;
+use tables::Tables;
 use verdict::Found;
 use words::Refusal;
 
@@ -95,25 +96,55 @@ fn judge_graph(
     }
 }
 
-// Judge, over a program and a lemma list that have been read and lent lists that are long enough.
-fn judge_list(
-    words: &[u32],
-    image: Image,
-    lemmas: &[u32],
-    begins: [usize; 512],
-    count: usize,
-    graph: &mut [u32],
-    path: &mut [u32],
-) -> Judged
-    requires { ⌜ Held (now words) image × Begun (theProgram (now words)) (now lemmas) begins count (theLemmas (theProgram (now words)) (now lemmas)) × (graphWords ≤ length (now graph)) × (pathWords ≤ length (now path)) ⌝ }
-    ensures answer { λ r. ⌜ r ≡ judgeList (theProgram (now (words .entry))) (theLemmas (theProgram (now (words .entry))) (now (lemmas .entry))) (now (graph .entry)) (now (path .entry)) .answer ⌝ }
-    ensures graph { λ _. ⌜ now (graph .exit) ≡ judgeList (theProgram (now (words .entry))) (theLemmas (theProgram (now (words .entry))) (now (lemmas .entry))) (now (graph .entry)) (now (path .entry)) .graph ⌝ }
-    ensures path { λ _. ⌜ now (path .exit) ≡ judgeList (theProgram (now (words .entry))) (theLemmas (theProgram (now (words .entry))) (now (lemmas .entry))) (now (graph .entry)) (now (path .entry)) .path ⌝ }
+// What reading, weighing and exploring come to before anything is judged. Where the status is ready, the graph list holds a graph of these counts.
+pub struct Surveyed {
+    pub status: Status,
+    pub image: Image,
+    pub tables: Tables,
+    pub nodes: usize,
+    pub edges: usize,
+}
+
+fn stopped(image: Image, why: Refusal) -> Surveyed
+    ensures { λ r. ⌜ r .status ≡ Failed why ⌝ }
 {
+    let tables = Tables {
+        premises: [0u32; 512],
+        keys: [0u32; 512],
+        count: 0,
+        off: 0,
+    };
+    Surveyed {
+        status: Status::Failed(why),
+        image,
+        tables,
+        nodes: 0,
+        edges: 0,
+    }
+}
+
+// A show read, its lemmas weighed and its graph explored, into the first 9,216 words of a list that is long enough; or the refusal that is due.
+pub fn survey(words: &[u32], lemmas: &[u32], graph: &mut [u32]) -> Surveyed
+    requires { ⌜ graphWords ≤ length (now graph) ⌝ }
+    ensures { λ r. ⌜ SurveyOf (now (words .entry)) (now (lemmas .entry)) (now (graph .entry)) (now (graph .exit)) r ⌝ }
+{
+    let loaded = programs::load(words);
+    let image = loaded.image;
+    let status = loaded.status;
+    if let Status::Failed(why) = status {
+        return stopped(image, why);
+    }
+    let list = lemmas::list(words, image, lemmas);
+    let status = list.status;
+    if let Status::Failed(why) = status {
+        return stopped(image, why);
+    }
+    let begins = list.begin_at;
+    let count = list.count;
     let tables = tables::tabulate(words, image, lemmas, begins, count);
     let off = tables.off;
     if off < count {
-        return Judged::Refused(Refusal::Sum(off));
+        return stopped(image, Refusal::Sum(off));
     }
     let premises = tables.premises;
     let keys = tables.keys;
@@ -121,18 +152,14 @@ fn judge_list(
     let actions = image.actions;
     let explored = graph::explore(&premises[..], &keys[..], n, actions, &mut *graph);
     match explored {
-        Explored::Full => Judged::Refused(Refusal::Nodes),
-        Explored::Whole(nodes, edges) => judge_graph(
-            words,
+        Explored::Full => stopped(image, Refusal::Nodes),
+        Explored::Whole(nodes, edges) => Surveyed {
+            status: Status::Ready,
             image,
-            &premises[..],
-            &keys[..],
-            n,
-            &graph[..],
+            tables,
             nodes,
             edges,
-            &mut *path,
-        ),
+        },
     }
 }
 
@@ -150,18 +177,27 @@ pub fn judge(words: &[u32], lemmas: &[u32], graph: &mut [u32], path: &mut [u32])
     if path.len() < verdict::PATH_ROOM {
         return Judged::Refused(Refusal::Short(1));
     }
-    let loaded = programs::load(words);
-    let status = loaded.status;
+    let surveyed = survey(words, lemmas, &mut *graph);
+    let status = surveyed.status;
     if let Status::Failed(why) = status {
         return Judged::Refused(why);
     }
-    let image = loaded.image;
-    let list = lemmas::list(words, image, lemmas);
-    let status = list.status;
-    if let Status::Failed(why) = status {
-        return Judged::Refused(why);
-    }
-    let begins = list.begin_at;
-    let count = list.count;
-    judge_list(words, image, lemmas, begins, count, &mut *graph, &mut *path)
+    let image = surveyed.image;
+    let tables = surveyed.tables;
+    let premises = tables.premises;
+    let keys = tables.keys;
+    let n = tables.count;
+    let nodes = surveyed.nodes;
+    let edges = surveyed.edges;
+    judge_graph(
+        words,
+        image,
+        &premises[..],
+        &keys[..],
+        n,
+        &graph[..],
+        nodes,
+        edges,
+        &mut *path,
+    )
 }

@@ -1,11 +1,10 @@
-use Rattle.ask.proofs.Asking.{Program-read, program-read}
-use Rattle.judge.proofs.Whole.{short-graph, short-path, no-program, no-lemmas, begun, judged-list}
+use native.Mathlib.Omega.{arith}
+use Rattle.lemmas.specs.Sources.{theProgram}
+use Rattle.tables.specs.Tabled.{theLemmas}
+use Rattle.judge.proofs.Whole.{short-graph, short-path, no-graph, complete, judged}
 use borrow.Author.Needs.{needs}
 use Rattle.judge.proofs.judge.Statement.{statement}
 use Rattle.judge.proofs.judge.Tie as tie
-
-known : (c : tie.After-enum-told) → Program-read (c .before .before .before .before .before .before .before .before .before .args .words .now) (c .before .before .load .ensures)
-known c = program-read (c .before .before .before .before .before .before .before .before .before .args .words .now) (c .before .before .load .ensures) (c .enum-told .given .1)
 
 returns : tie.Need-returns
 returns c =
@@ -17,55 +16,57 @@ returns-2 c =
     let f = c .before .before .before .before .before .before in
     short-path (f .args .words .now) (f .args .lemmas .now) (f .args .graph .now) (f .args .path .now) (c .before .if1 .left) (c .if2 .taken)
 
-load-requires : tie.Need-load-requires
-load-requires c κs = search needs
+survey-requires : tie.Need-survey-requires
+survey-requires c κs = c .before .before .if1 .left
 
 enum-known-status : tie.Need-enum-known-status
 enum-known-status c = search needs
 
+same-length : tie.Need-same-length
+same-length c = search needs
+
 returns-3 : tie.Need-returns-3
 returns-3 c =
-    let q = c .before .before .before in
-    let f = q .before .before .before .before .before .before .before in
-    no-program (f .args .words .now) (f .args .lemmas .now) (f .args .graph .now) (f .args .path .now) (q .before .before .if1 .left) (q .before .if2 .left) (q .load .ensures) (c .before .status .given .1)
+    let q = c .before .before .before .before .before in
+    let f = q .before .before .before .before .before .before .before .before in
+    no-graph (f .args .words .now) (f .args .lemmas .now) (f .args .graph .now) (f .args .path .now) (q .before .before .before .if1 .left) (q .before .before .if2 .left) (q .survey .result) (q .survey .ensures) (c .before .status .given .1)
 
 enum-told : tie.Need-enum-told
 enum-told c = search needs
 
-list-requires : tie.Need-list-requires
-list-requires c κs = known (c .before) .held
+slice-aggregate-judge-graph : tie.Need-slice-aggregate-judge-graph
+slice-aggregate-judge-graph c = search needs
 
-enum-known-status-2 : tie.Need-enum-known-status-2
-enum-known-status-2 c = search needs
+slice-aggregate-judge-graph-2 : tie.Need-slice-aggregate-judge-graph-2
+slice-aggregate-judge-graph-2 c = search (needs, c .before .before .before .before .before .before .before .before .before .before .survey .ok .1 .1 .1 .1 .0 .1 .1 .1 .0 .1)
 
-returns-4 : tie.Need-returns-4
-returns-4 c =
-    let q = c .before .before .before .before .before .before .before in
-    let f = q .before .before .before .before .before .before .before in
-    no-lemmas (f .args .words .now) (f .args .lemmas .now) (f .args .graph .now) (f .args .path .now) (q .before .before .if1 .left) (q .before .if2 .left) (q .load .ensures) (known (c .before .before .before .before .before)) (c .before .before .before .list .ensures) (c .before .status2 .given .1)
-
-enum-told-2 : tie.Need-enum-told-2
-enum-told-2 c = search needs
-
-judge-list-requires : tie.Need-judge-list-requires
-judge-list-requires c κs =
-    let q = c .before .before .before .before .before in
-    let l = q .before .before .before .before in
-    let f = l .before .before .before .before .before .before .before in
-    (known (q .before .before) .held, begun (f .args .words .now) (f .args .lemmas .now) (f .args .graph .now) (f .args .path .now) (l .before .before .if1 .left) (l .before .if2 .left) (l .load .ensures) (known (q .before .before)) (q .list .ensures) (c .before .before .before .enum-told2 .given .1), l .before .before .if1 .left, l .before .if2 .left)
-
-same-length : tie.Need-same-length
-same-length c = search needs
+judge-graph-requires : tie.Need-judge-graph-requires
+judge-graph-requires c κs =
+    let q = c .before .before .before .before .before .before .before .before .before .before .before .before in
+    let f = q .before .before .before .before .before .before .before .before in
+    let w = complete (f .args .words .now) (f .args .lemmas .now) (f .args .graph .now) (f .args .path .now) (q .before .before .before .if1 .left) (q .before .before .if2 .left) (q .survey .result) (q .survey .ensures) (c .before .before .before .before .before .before .before .before .enum-told .given .1) in (
+      w .held,
+      w .tabled .few .0,
+      w .tabled .few .1,
+      omega (arith, q .survey .kept .1 .1 .0, q .before .before .before .if1 .left),
+      q .before .before .if2 .left,
+      (theLemmas (theProgram (f .args .words .now)) (f .args .lemmas .now), w .made, w .ready),
+    )
 
 same-length-2 : tie.Need-same-length-2
 same-length-2 c = search needs
 
-returns-5 : tie.Need-returns-5
-returns-5 c =
-    let q = c .before .before .before .before .before .before .before .before in
-    let l = q .before .before .before .before in
-    let f = l .before .before .before .before .before .before .before .before .before in
-    judged-list (f .args .words .now) (f .args .lemmas .now) (f .args .graph .now) (f .args .path .now) (l .before .before .before .before .if1 .left) (l .before .before .before .if2 .left) (l .before .before .load .ensures) (known (l)) (q .before .before .list .ensures) (q .enum-told2 .given .1) (c .before .before .before .before .judge-list .ensures)
+same-length-3 : tie.Need-same-length-3
+same-length-3 c = search needs
+
+returns-4 : tie.Need-returns-4
+returns-4 c =
+    let j = c .before .before in
+    let q = c .before .before .before .before .before .before .before .before .before .before .before .before .before .before .before in
+    let f = q .before .before .before .before .before .before .before .before in
+    let w = complete (f .args .words .now) (f .args .lemmas .now) (f .args .graph .now) (f .args .path .now) (q .before .before .before .if1 .left) (q .before .before .if2 .left) (q .survey .result) (q .survey .ensures) (c .before .before .before .before .before .before .before .before .before .before .before .enum-told .given .1) in
+    judged (f .args .words .now) (f .args .lemmas .now) (f .args .graph .now) (f .args .path .now) (q .before .before .before .if1 .left) (q .before .before .if2 .left) (q .survey .result) (q .survey .ensures) (c .before .before .before .before .before .before .before .before .before .before .before .enum-told .given .1)
+    (j .judge-graph .ensures (theLemmas (theProgram (f .args .words .now)) (f .args .lemmas .now)) (w .made) (w .ready))
 
 pub judge-spec : {M : Type 1} → statement M
 judge-spec =
@@ -73,15 +74,14 @@ judge-spec =
     (tie.spec
     returns
     returns-2
-    load-requires
+    survey-requires
     enum-known-status
+    same-length
     returns-3
     enum-told
-    list-requires
-    enum-known-status-2
-    returns-4
-    enum-told-2
-    judge-list-requires
-    same-length
+    slice-aggregate-judge-graph
+    slice-aggregate-judge-graph-2
+    judge-graph-requires
     same-length-2
-    returns-5)
+    same-length-3
+    returns-4)

@@ -1,0 +1,169 @@
+-- A show read, weighed and explored: what a survey comes to, whichever way it ends.
+use mathlib.Core.Path.{_≡_, refl, sym, ap, subst, _∙_}
+use mathlib.Core.Bool.{Bool, true, false, cond}
+use mathlib.Core.List.{List, [], _∷_, map}
+use Prim.Native.Nat.{ℕ, suc, _≤_, _<_}
+use native.Mathlib.Omega.{arith}
+use lib.ListN.{length, getD}
+use borrow.Author.Tests.{lt-ltb, le-ltb}
+use Rattle.words.specs.declared.Refusal.{Refusal}
+use Rattle.words.specs.declared.Refusal.the-variants.{Sum, Nodes}
+use Rattle.rows.specs.Rows.{in64}
+use Rattle.grammar.specs.Reading.{Read, got}
+use Rattle.grammar.specs.Programs.{Program}
+use Rattle.programs.specs.Calls.{read}
+use Rattle.programs.specs.Images.{loaded}
+use Rattle.programs.specs.declared.Loaded.{Loaded}
+use Rattle.programs.specs.declared.Status.{Status}
+use Rattle.programs.specs.declared.Status.the-variants.{Ready as IsReady, Failed}
+use Rattle.lemmas.specs.Lemmas.{Lemma, largestOf}
+use Rattle.lemmas.specs.LemmaGrammar.{readLemmas}
+use Rattle.lemmas.specs.Sources.{theProgram, listed}
+use Rattle.lemmas.specs.declared.Listed.{Listed}
+use Rattle.lemmas.proofs.SourceLaws.{counts}
+use Rattle.gather.specs.Gathering.{entryOf}
+use Rattle.search.specs.Search.{Graph, Result, Done, Over, count, links}
+use Rattle.records.specs.Records.{graphList}
+use Rattle.records.specs.Steps.{exploredOf}
+use Rattle.records.specs.declared.Explored.{Explored}
+use Rattle.records.specs.declared.Explored.the-variants.{Whole, Full}
+use Rattle.graph.specs.Graph.{graphOf}
+use Rattle.abstraction.specs.Abstraction.{graph}
+use Rattle.abstraction.specs.Claims.{claims}
+use Rattle.abstraction.proofs.Graphs.{same-graph}
+use Rattle.ask.specs.Calls.{noLemma}
+use Rattle.ask.proofs.Asking.{Program-read, read-refused, lemmas-refused, Lemmas-read, lemmas-read, good, is-lemma, lemma-is}
+use Rattle.tables.specs.Tabled.{lemmasOr, theLemmas, Begun, Tabled}
+use Rattle.tables.specs.Off.{firstOff}
+use Rattle.tables.specs.declared.Tables.{Tables}
+use Rattle.judge.specs.Calls.{keep, judgeGraph, judgeProgram, judgeLemmas}
+use Rattle.judge.specs.Ready.{entriesOf, Complete, SurveyBy, SurveyOf}
+use Rattle.judge.specs.declared.Judged.the-variants.{Refused}
+use Rattle.judge.specs.declared.Surveyed.{Surveyed}
+
+first-off-le : (p : Program) (ls : List Lemma) → firstOff p ls ≤ length ls
+unfolding firstOff
+first-off-le p [] = omega arith
+first-off-le p (l ∷ ls) = go (in64 (largestOf p l)) (first-off-le p ls)
+  where
+    go : (b : Bool) → firstOff p ls ≤ length ls → cond b (suc (firstOff p ls)) 0 ≤ suc (length ls)
+    go true h = omega (arith, h)
+    go false h = omega arith
+
+over-full : (r : Result) → exploredOf r ≡ Full → r ≡ Over
+over-full (Done g) e = let z : _≡_ {A = ℕ} 0 1 = cc in absurd (omega arith)
+over-full Over e = refl
+
+record WholeIs (r : Result) (nodes edges : ℕ) : Type 0 where
+  pub made : Graph
+  pub done : r ≡ Done made
+  pub nodes-are : nodes ≡ count made
+  pub edges-are : edges ≡ links made
+
+done-whole : (r : Result) (nodes edges : ℕ) → exploredOf r ≡ Whole nodes edges → WholeIs r nodes edges
+done-whole (Done g) n e h = record { made = g; done = refl; nodes-are = cc h; edges-are = cc h }
+done-whole Over n e h = let z : _≡_ {A = ℕ} 0 1 = cc in absurd (omega arith)
+
+module _ (ws lemmas gl : List ℕ) where
+  -- refused as Judge refuses, the graph list left so
+  abbrev Refuses : Refusal → List ℕ → Type 0
+  Refuses r gl′ = (pl : List ℕ) → judgeProgram (read ws) lemmas gl pl ≡ keep (Refused r) gl′ pl
+
+  pub refuses : (s : Surveyed) {r : Refusal} {gl′ : List ℕ} → s .status ≡ Failed r → Refuses r gl′ → SurveyOf ws lemmas gl gl′ s
+  refuses s {r} {gl′} e h = subst (λ (x : Status). SurveyBy x ws lemmas gl gl′ s) (sym e) h
+
+  module _ {x : Loaded} (e : x ≡ loaded (read ws)) where
+    pub no-program : {r : Refusal} → x .status ≡ Failed r → Refuses r gl
+    no-program h pl = ap (λ (m : Read Program). judgeProgram m lemmas gl pl) (read-refused ws e h)
+
+    module _ (k : Program-read ws e) {y : Listed} (l : y ≡ listed (readLemmas (theProgram ws) lemmas)) where
+      abbrev p : Program
+      p = theProgram ws
+
+      abbrev ls : List Lemma
+      ls = theLemmas p lemmas
+
+      judged-lemmas : (pl : List ℕ) → judgeProgram (read ws) lemmas gl pl ≡ judgeLemmas p (readLemmas p lemmas) gl pl
+      judged-lemmas pl = ap (λ (m : Read Program). judgeProgram m lemmas gl pl) (k .is)
+
+      pub no-lemmas : {r : Refusal} → y .status ≡ Failed r → Refuses r gl
+      no-lemmas h pl = judged-lemmas pl ∙ ap (λ (m : Read (List Lemma)). judgeLemmas p m gl pl) (lemmas-refused ws p (k .is) (k .held .accepted .good) lemmas l 0 h)
+
+      module _ (h : y .status ≡ IsReady) where
+        found : (i : ℕ) → Lemmas-read ws p (k .is) (k .held .accepted .good) lemmas l i
+        found i = lemmas-read ws p (k .is) (k .held .accepted .good) lemmas l i h
+
+        list-is : readLemmas p lemmas ≡ got ls (found 0 .rest) (found 0 .index)
+        list-is = found 0 .is ∙ ap (λ (m : List Lemma). got m (found 0 .rest) (found 0 .index)) (sym (ap lemmasOr (found 0 .is)))
+
+        pub begun : Begun p lemmas (y .«begin_at») (y .count) ls
+        begun =
+            let same : ls ≡ found 0 .list = ap lemmasOr (found 0 .is) in
+            let ok = k .held .accepted .good in
+            record {
+              counted = found 0 .counted ∙ ap length (sym same);
+              good = rw same (good ws p (k .is) ok lemmas l 0 (found 0));
+              here = λ i m. (
+                is-lemma ws p (k .is) ok lemmas l i (found i) m,
+                lemma-is ws p (k .is) ok lemmas l i (found i) m ∙ ap (λ (ls : List Lemma). getD ls i noLemma) (sym (ap lemmasOr (found i .is))),
+              );
+            }
+
+        module _ {t : Tables} (T : Tabled p ls t) where
+          judged-list : (pl : List ℕ) → judgeProgram (read ws) lemmas gl pl ≡ judgeLemmas p (got ls (found 0 .rest) (found 0 .index)) gl pl
+          judged-list pl = judged-lemmas pl ∙ ap (λ (m : Read (List Lemma)). judgeLemmas p m gl pl) list-is
+
+          pub sum-off : t .off < y .count → Refuses (Sum (t .off)) gl
+          sum-off o pl =
+              let off : firstOff p ls < length ls = omega (arith, T .off, begun .counted) in
+              judged-list pl ∙ rw (lt-ltb (firstOff p ls) (length ls) off, T .off) refl
+
+          module _ (n : y .count ≤ t .off) where
+            none-off : t .off ≡ length ls
+            none-off = omega (arith, T .off, begun .counted, first-off-le p ls)
+
+            judged-whole : (pl : List ℕ) → judgeProgram (read ws) lemmas gl pl ≡ judgeGraph p ls (graph p ls) gl pl
+            judged-whole pl = judged-list pl ∙ rw (le-ltb (firstOff p ls) (length ls) (omega (arith, T .off, none-off))) refl
+
+            tables-are : entriesOf t ≡ map entryOf (claims p ls)
+            tables-are = T .same none-off
+
+            actions-are : x .image .actions ≡ length (p .actions)
+            actions-are = counts ws (k .held) 0 .0
+
+            pub actions-few : x .image .actions ≤ 16
+            actions-few = omega (arith, actions-are, counts ws (k .held) 0 .5)
+
+            graph-is : graphOf (entriesOf t) (x .image .actions) ≡ graph p ls
+            graph-is = rw (tables-are, actions-are) (same-graph p (k .held .accepted .good) ls (begun .good .each))
+
+            module _ {z : Explored} {l′ : List ℕ} (ex : z ≡ exploredOf (graphOf (entriesOf t) (x .image .actions))) (el : l′ ≡ graphList (x .image .actions) (graphOf (entriesOf t) (x .image .actions)) gl) where
+              left-is : (r : Result) → graph p ls ≡ r → l′ ≡ graphList (length (p .actions)) r gl
+              left-is r q = el ∙ (λ i. graphList (actions-are i) (graph-is i) gl) ∙ ap (λ (m : Result). graphList (length (p .actions)) m gl) q
+
+              pub too-many : z ≡ Full → Refuses Nodes l′
+              too-many f pl =
+                  let o : graph p ls ≡ Over = over-full (graph p ls) (ap exploredOf (sym graph-is) ∙ sym ex ∙ f) in
+                  judged-whole pl ∙ ap (λ (r : Result). judgeGraph p ls r gl pl) o ∙ ap (λ (m : List ℕ). keep (Refused Nodes) m pl) (sym (left-is Over o))
+
+              pub complete : {nodes edges : ℕ} → z ≡ Whole nodes edges
+                  → Complete p ls ws lemmas gl l′ (record { status = IsReady; image = x .image; tables = t; nodes = nodes; edges = edges })
+              complete {nodes} {edges} w =
+                  let g = done-whole (graph p ls) nodes edges (ap exploredOf (sym graph-is) ∙ sym ex ∙ w) in
+                  record {
+                    held = k .held;
+                    tabled = T;
+                    made = g .made;
+                    ready = record {
+                      good = k .held .accepted .good;
+                      each = begun .good .each;
+                      is = g .done;
+                      nodes-are = g .nodes-are;
+                      edges-are = g .edges-are;
+                      tables = tables-are;
+                      before = gl;
+                      listed = left-is (Done (g .made)) (g .done);
+                    };
+                    left = left-is (Done (g .made)) (g .done);
+                    judged = λ pl. judged-whole pl ∙ ap (λ (r : Result). judgeGraph p ls r gl pl) (g .done);
+                  }

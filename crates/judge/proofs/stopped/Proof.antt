@@ -1,0 +1,9 @@
+use borrow.Author.Needs.{needs}
+use Rattle.judge.proofs.stopped.Statement.{statement}
+use Rattle.judge.proofs.stopped.Tie as tie
+
+returns : tie.Need-returns
+returns c = search needs
+
+pub stopped-spec : {M : Type 1} → statement M
+stopped-spec = tie.close (tie.spec returns)
