@@ -193,10 +193,9 @@ pub fn judge(words: &[u32], lemmas: &[u32], graph: &mut [u32], path: &mut [u32])
         return Judged::Refused(why);
     }
     let image = surveyed.image;
-    let tables = surveyed.tables;
-    let premises = tables.premises;
-    let keys = tables.keys;
-    let n = tables.count;
+    let premises = surveyed.tables.premises;
+    let keys = surveyed.tables.keys;
+    let n = surveyed.tables.count;
     let nodes = surveyed.nodes;
     let edges = surveyed.edges;
     judge_graph(
