@@ -43,8 +43,12 @@ fn first_finding(
     graph: &[u32],
     nodes: usize,
 ) -> Found
-    requires { ⌜ Held (now words) image × (n ≤ length (now premises)) × (n ≤ length (now keys)) × (graphWords ≤ length (now graph)) × ((ls : List Lemma) × (g : Graph) × (edges : ℕ) × Ready (theProgram (now words)) ls g (entries (now premises) (now keys) n) nodes edges (now graph)) ⌝ }
-    ensures { λ r. ⌜ Within nodes r × ((ls : List Lemma) (g : Graph) (edges : ℕ) → Ready (theProgram (now (words .entry))) ls g (entries (now (premises .entry)) (now (keys .entry)) n) nodes edges (now (graph .entry)) → r ≡ foundOf (findings (theProgram (now (words .entry))) ls g)) ⌝ }
+    requires { ⌜ Held (now words) image × (n ≤ length (now premises)) × (n ≤ length (now keys)) × (graphWords ≤ length (now graph))
+        × ((ls : List Lemma) × (g : Graph) × (edges : ℕ)
+        × Ready (theProgram (now words)) ls g (entries (now premises) (now keys) n) nodes edges (now graph)) ⌝ }
+    ensures { λ r. ⌜ Within nodes r × ((ls : List Lemma) (g : Graph) (edges : ℕ)
+        → Ready (theProgram (now (words .entry))) ls g (entries (now (premises .entry)) (now (keys .entry)) n) nodes edges (now (graph .entry))
+        → r ≡ foundOf (findings (theProgram (now (words .entry))) ls g)) ⌝ }
 {
     let asked = verdict::asked_ends(image);
     let literals = image.literals;
@@ -75,8 +79,13 @@ fn judge_graph(
     edges: usize,
     path: &mut [u32],
 ) -> Judged
-    requires { ⌜ Held (now words) image × (n ≤ length (now premises)) × (n ≤ length (now keys)) × (graphWords ≤ length (now graph)) × (pathWords ≤ length (now path)) × ((ls : List Lemma) × (g : Graph) × Ready (theProgram (now words)) ls g (entries (now premises) (now keys) n) nodes edges (now graph)) ⌝ }
-    ensures { λ r. ⌜ ((ls : List Lemma) (g : Graph) → Ready (theProgram (now (words .entry))) ls g (entries (now (premises .entry)) (now (keys .entry)) n) nodes edges (now (graph .entry)) → (r ≡ verdict g (findings (theProgram (now (words .entry))) ls g)) × (now (path .exit) ≡ pathList (pathTo g (findings (theProgram (now (words .entry))) ls g)) (now (path .entry)))) ⌝ }
+    requires { ⌜ Held (now words) image × (n ≤ length (now premises)) × (n ≤ length (now keys))
+        × (graphWords ≤ length (now graph)) × (pathWords ≤ length (now path))
+        × ((ls : List Lemma) × (g : Graph) × Ready (theProgram (now words)) ls g (entries (now premises) (now keys) n) nodes edges (now graph)) ⌝ }
+    ensures { λ r. ⌜ ((ls : List Lemma) (g : Graph)
+        → Ready (theProgram (now (words .entry))) ls g (entries (now (premises .entry)) (now (keys .entry)) n) nodes edges (now (graph .entry))
+        → (r ≡ verdict g (findings (theProgram (now (words .entry))) ls g))
+        × (now (path .exit) ≡ pathList (pathTo g (findings (theProgram (now (words .entry))) ls g)) (now (path .entry)))) ⌝ }
 {
     let actions = image.actions;
     let found = first_finding(words, image, premises, keys, n, graph, nodes);
@@ -168,7 +177,8 @@ pub fn judge(words: &[u32], lemmas: &[u32], graph: &mut [u32], path: &mut [u32])
     ensures answer { λ r. ⌜ r ≡ judge (now (words .entry)) (now (lemmas .entry)) (now (graph .entry)) (now (path .entry)) .answer ⌝ }
     ensures graph { λ _. ⌜ now (graph .exit) ≡ judge (now (words .entry)) (now (lemmas .entry)) (now (graph .entry)) (now (path .entry)) .graph ⌝ }
     ensures path { λ _. ⌜ now (path .exit) ≡ judge (now (words .entry)) (now (lemmas .entry)) (now (graph .entry)) (now (path .entry)) .path ⌝ }
-    ensures demand2 { λ r. ⌜ Demand2Of (now (words .entry)) (now (lemmas .entry)) r (now (graph .entry)) (now (graph .exit)) (now (path .entry)) (now (path .exit)) ⌝ }
+    ensures demand2 { λ r. ⌜ Demand2Of (now (words .entry)) (now (lemmas .entry)) r
+        (now (graph .entry)) (now (graph .exit)) (now (path .entry)) (now (path .exit)) ⌝ }
     ensures demand3 { λ r. ⌜ ((nodes edges : ℕ) → r ≡ Safe nodes edges → SafeOf (read (now (words .entry)))) ⌝ }
 {
     if graph.len() < records::ROOM {
@@ -183,10 +193,9 @@ pub fn judge(words: &[u32], lemmas: &[u32], graph: &mut [u32], path: &mut [u32])
         return Judged::Refused(why);
     }
     let image = surveyed.image;
-    let tables = surveyed.tables;
-    let premises = tables.premises;
-    let keys = tables.keys;
-    let n = tables.count;
+    let premises = surveyed.tables.premises;
+    let keys = surveyed.tables.keys;
+    let n = surveyed.tables.count;
     let nodes = surveyed.nodes;
     let edges = surveyed.edges;
     judge_graph(
