@@ -11,7 +11,7 @@ use native.Mathlib.Numerals.{add-one}
 use borrow.Author.Tests.{lt-ltb}
 use lib.ListN.{replicate, length-replicate, length, drop, set}
 use lib.Seq.{drop-at, drop-set-lt}
-use Rattle.search.specs.Search.{Answer, To, None, Root, Graph, Result, Done, Over, count, links, linksIn, empty, turns, node, run, explored}
+use Rattle.search.specs.Search.{Answer, To, None, Root, Graph, Result, Done, Over, count, links, linksIn, empty, turns, node, visited, explored}
 use Rattle.search.proofs.Theorem as theorem
 use Rattle.search.proofs.Steps.{explored-over, explored-done}
 use Rattle.records.specs.Records.{mostNodes, graphWords, originWord, stride, recordPlace, recordsOf, graphList}
@@ -35,7 +35,7 @@ pub record Running (next : ℕ → ℕ → Answer) (a s : ℕ) (l₀ l : List �
   pub bound : x ≤ k * a
   pub same : length l ≡ length l₀
   pub tail : drop graphWords l ≡ drop graphWords l₀
-  pub held : Still l₀ (run next a mostNodes (To s) k) l a n x (k * a)
+  pub held : Still l₀ (visited next a mostNodes (To s) k) l a n x (k * a)
 
 nothing : (l : List ℕ) (a : ℕ) → Kept l l a 0 0 0 empty
 unfolding column linksIn
@@ -45,7 +45,7 @@ rebased : {l₀ l : List ℕ} {a n x e : ℕ} {g : Graph} → Kept l₀ l a n x 
 rebased h = record { size = h .size; leading = h .leading; width = h .width; words = h .words; apart = h .apart; origins = h .origins; edges = h .edges; rest = refl }
 
 pub first-node : (next : ℕ → ℕ → Answer) (a s : ℕ) (l l₀ : List ℕ) → l₀ ≡ rootAt l s → stride a ≤ length l → Running next a s l₀ l₀ 1 0 0
-unfolding run
+unfolding visited
 first-node next a s l l₀ root room =
     let k = kept-stored l l a 0 0 0 empty (nothing l a) (omega (arith, zero-mul (stride a))) Root s (originWord Root) (omega (arith, zero-mul (stride a))) refl refl in
     record {
@@ -68,7 +68,7 @@ module _ (next : ℕ → ℕ → Answer) (a s : ℕ) (l₁ l₀ l : List ℕ) (r
     taken Over h = absurd h
 
     pub taken-on : (c d : ℕ) → r ≡ Whole c d → length l′ ≡ length l → Running next a s l₀ l′ c d (k + 1)
-    unfolding run
+    unfolding visited
     taken-on c d is len =
         let f : Fair n (k * a + a) (Whole c d) = rw is at (t .fair) in
         let next-place : (k + 1) * a ≡ k * a + a = rw add-one (suc-mul k a) in
@@ -81,21 +81,21 @@ module _ (next : ℕ → ℕ → Answer) (a s : ℕ) (l₁ l₀ l : List ℕ) (r
           tail = t .tail ∙ inv .tail;
           held =
               rw (next-place, add-one k)
-              (settle l₀ (node next a mostNodes (run next a mostNodes (To s) k) k) l′ a c d (k * a + a) (rw is at (taken (run next a mostNodes (To s) k) (inv .held))));
+              (settle l₀ (node next a mostNodes (visited next a mostNodes (To s) k) k) l′ a c d (k * a + a) (rw is at (taken (visited next a mostNodes (To s) k) (inv .held))));
         }
 
     pub all-over : r ≡ Full → Filled a (explored next a mostNodes (To s)) r l₁ l′
-    unfolding run
+    unfolding visited
     all-over is =
         let f = inv .few in
         rw (explored-over next a mostNodes (To s) (suc k) (omega arith)
-        (is-over l₀ (node next a mostNodes (run next a mostNodes (To s) k) k) l′ a (k * a + a) (rw is at (taken (run next a mostNodes (To s) k) (inv .held)))))
+        (is-over l₀ (node next a mostNodes (visited next a mostNodes (To s) k) k) l′ a (k * a + a) (rw is at (taken (visited next a mostNodes (To s) k) (inv .held)))))
         (is, t .tail ∙ inv .tail ∙ rw root (root-tail l₁ s graphWords (omega arith)))
 
   pub all-done : n ≤ k → recordPlace a n ≤ length l → Filled a (explored next a mostNodes (To s)) (Whole n x) l₁ l
-  all-done past wide = go (run next a mostNodes (To s) k) refl (inv .held)
+  all-done past wide = go (visited next a mostNodes (To s) k) refl (inv .held)
     where
-      go : (y : Result) → run next a mostNodes (To s) k ≡ y → Still l₀ y l a n x (k * a) → Filled a (explored next a mostNodes (To s)) (Whole n x) l₁ l
+      go : (y : Result) → visited next a mostNodes (To s) k ≡ y → Still l₀ y l a n x (k * a) → Filled a (explored next a mostNodes (To s)) (Whole n x) l₁ l
       go (Done g) e h =
           let c = h .size in
           let low = inv .low in
@@ -135,5 +135,5 @@ module _ (next : ℕ → ℕ → Answer) (a : ℕ) (l₀ z : List ℕ) (blank : 
         )
 
   pub cleared-none : y ≡ None → Leaves next a y l₀ (Whole 0 0) z
-  unfolding run recordsOf linksIn
+  unfolding visited recordsOf linksIn
   cleared-none from = rw (from, explored-done next a mostNodes None empty 0 (omega arith) (omega arith) refl) (refl, rw (zero-mul (stride a)) blank)

@@ -2,7 +2,7 @@
 use mathlib.Core.Path.{_≡_, refl}
 use mathlib.Core.List.{List, [], _∷_, map}
 use Rattle.gather.specs.Gathering.{Claim, entryOf, gatherFrom}
-use Rattle.search.specs.Search.{To, None, Root, From, Graph, Done, linksIn, links, turns, run, explored}
+use Rattle.search.specs.Search.{To, None, Root, From, Graph, Done, linksIn, links, turns, visited, explored}
 use Rattle.graph.specs.Graph.{graphOf}
 
 -- P0 is "level at least 1", P1 "house at least 1"; in premises P0 and P1 are 1 and 2 where true, 0x4000 and 0x8000 where false
@@ -32,7 +32,7 @@ house-graph = record {
 }
 
 explores-house : graphOf (map entryOf house) 4 ≡ Done house-graph
-unfolding house house-graph explored run turns gatherFrom
+unfolding house house-graph explored visited turns gatherFrom
 explores-house = refl
 
 ten-edges : links house-graph ≡ 10

@@ -3,7 +3,7 @@
 -- OfList, OfRead — a claim about the program and the lemmas that two lists of words are
 -- Drawn     — a list holds the records of a graph that is formula (3)'s, with these counts; 512 nodes are enough
 -- Walked    — a list holds the steps of a walk in a graph from node 0 to a node
--- Shown, ShownPath — the first, of the words that were read; both
+-- GraphLeft, PathLeft — the first, of the words that were read; both
 -- Demand2Of — of an answer: a verdict leaves the graph with its counts, and a finding the walk to its node; refusal 7 says that too many are reachable
 -- SafeOf    — demand 3, of the program that the words are
 use mathlib.Core.Path.{_≡_}
@@ -49,18 +49,18 @@ pub record Walked (p : Program) (g : Graph) (node : ℕ) (before after : List �
   pub walk : Walk (length (p .actions)) g 0 steps node
   pub words : after ≡ pathList steps before
 
-abbrev pub Shown : List ℕ → List ℕ → ℕ → ℕ → List ℕ → List ℕ → Type 0
-Shown ws lemmas nodes edges gl gl′ = OfRead (λ p ls. (g : Graph) × Drawn p ls g nodes edges gl gl′) (read ws) lemmas
+abbrev pub GraphLeft : List ℕ → List ℕ → ℕ → ℕ → List ℕ → List ℕ → Type 0
+GraphLeft ws lemmas nodes edges gl gl′ = OfRead (λ p ls. (g : Graph) × Drawn p ls g nodes edges gl gl′) (read ws) lemmas
 
-abbrev pub ShownPath : List ℕ → List ℕ → ℕ → ℕ → ℕ → List ℕ → List ℕ → List ℕ → List ℕ → Type 0
-ShownPath ws lemmas node nodes edges gl gl′ pl pl′ =
+abbrev pub PathLeft : List ℕ → List ℕ → ℕ → ℕ → ℕ → List ℕ → List ℕ → List ℕ → List ℕ → Type 0
+PathLeft ws lemmas node nodes edges gl gl′ pl pl′ =
     OfRead (λ p ls. (g : Graph) × Drawn p ls g nodes edges gl gl′ × Walked p g node pl pl′) (read ws) lemmas
 
 -- the answer, then the graph list and the path list, each at entry and at exit
 abbrev pub Demand2Of : List ℕ → List ℕ → Judged → List ℕ → List ℕ → List ℕ → List ℕ → Type 0
-Demand2Of ws lemmas (IsSafe n e) gl gl′ pl pl′ = Shown ws lemmas n e gl gl′
-Demand2Of ws lemmas (MayForbid k b n e) gl gl′ pl pl′ = ShownPath ws lemmas k n e gl gl′ pl pl′
-Demand2Of ws lemmas (MayRunOff k j v high n e) gl gl′ pl pl′ = ShownPath ws lemmas k n e gl gl′ pl pl′
+Demand2Of ws lemmas (IsSafe n e) gl gl′ pl pl′ = GraphLeft ws lemmas n e gl gl′
+Demand2Of ws lemmas (MayForbid k b n e) gl gl′ pl pl′ = PathLeft ws lemmas k n e gl gl′ pl pl′
+Demand2Of ws lemmas (MayRunOff k j v high n e) gl gl′ pl pl′ = PathLeft ws lemmas k n e gl gl′ pl pl′
 Demand2Of ws lemmas (Refused r) gl gl′ pl pl′ = r ≡ Nodes → OfRead TooMany (read ws) lemmas
 
 abbrev pub SafeOf : Read Program → Type 0

@@ -36,7 +36,7 @@ use Rattle.abstraction.specs.Faithful.{Faithful, Demand2}
 use Rattle.judge.specs.declared.Judged.the-variants.{Safe as IsSafe}
 use Rattle.judge.specs.Calls.{judge}
 use Rattle.judge.specs.Worth.{Drawn, Demand2Of, SafeOf}
-use Rattle.view.specs.Views.{viewed, shown}
+use Rattle.view.specs.Views.{viewed, edgeViewed}
 use Rattle.lines.specs.Text.{text}
 use Rattle.report.specs.Report.{linesOf, Begins, SafeShow}
 use Rattle.worked.specs.Shows.{fade, fadeLemmas, house, incident, fadeProgram, houseProgram, incidentProgram, bytesOf}
@@ -109,7 +109,7 @@ verdict-safe ws lemmas gl pl n e h = Rattle.judge.proofs.Promised.judge-safe ws
 
 -- the view over a list that Judge has filled, with its counts, says what the graph says
 pub view-of-graph : (p : Program) → WellFormed p → (ls : List Lemma) (g : Graph) (l₀ : List ℕ) (k j : ℕ) → graph p ls ≡ Done g → k < count g → j < length (p .actions)
-    → viewed (graphList (length (p .actions)) (graph p ls) l₀) (count g) (length (p .actions)) k j ≡ shown (edge (length (p .actions)) g k j)
+    → viewed (graphList (length (p .actions)) (graph p ls) l₀) (count g) (length (p .actions)) k j ≡ edgeViewed (edge (length (p .actions)) g k j)
 view-of-graph p ok ls g l₀ k j e h l = Rattle.view.proofs.Graphs.search-viewed (answer (start p ls)) (Rattle.judge.proofs.Walks.next p ls) (length (p .actions)) g l₀ k j e (ok .actions .few) h l
 
 -- lines that begin with SAFE say that the logic in the bytes is a safe program; and there are such bytes

@@ -17,7 +17,7 @@ use Rattle.little.proofs.Laws.{length-words}
 use Rattle.lines.specs.Text.{text}
 use Rattle.lines.specs.Puts.{Put}
 use Rattle.lines.proofs.Puts.{at-front}
-use Rattle.report.specs.Report.{mostBytes, linesRoom, logicLength, wordsIn, zeros, judged, answerLines, judgementLines, showLines, linesOf, shown, Begins, SafeShow}
+use Rattle.report.specs.Report.{mostBytes, linesRoom, logicLength, wordsIn, zeros, judged, answerLines, judgementLines, showLines, linesOf, written, Begins, SafeShow}
 use Rattle.report.proofs.SafeLine.{show-safe}
 
 pub with-fresh : (logic lemmas gl pl : List ℕ) (r : Judged) (q : List ℕ) → gl ≡ zeros graphWords → pl ≡ zeros pathWords
@@ -35,7 +35,7 @@ pub words-read : (b ws space : List ℕ) → ws ≡ wordsOf b (length b / 4) ++ 
 words-read b ws space e = rw e (take-at (wordsIn b) (drop (length b / 4) space) (length b / 4) (length-words b (length b / 4)))
 
 abbrev pub Reported : List ℕ → List ℕ → List ℕ → ℕ → Type 0
-Reported b lines out r = (out ≡ shown b lines ++ drop (length (shown b lines)) lines) × (r ≡ length (shown b lines))
+Reported b lines out r = (out ≡ written b lines ++ drop (length (written b lines)) lines) × (r ≡ length (written b lines))
 
 pub cut : (b more : List ℕ) → mostBytes < length b → linesOf (b ++ more) ≡ linesOf b
 unfolding linesOf
@@ -66,7 +66,7 @@ module _ (b lines : List ℕ) where
 -- what was written begins with SAFE: a list that is too short gets nothing
 pub written-safe : (b lines : List ℕ) {out : List ℕ} {r : ℕ} → Reported b lines out r → Begins (text "SAFE") (take r out) → SafeShow b
 written-safe b lines {out} {r} p h =
-    go (ltb (length lines) linesRoom) (rw (p .0, take-at (shown b lines) (drop (length (shown b lines)) lines) r (sym (p .1))) at h)
+    go (ltb (length lines) linesRoom) (rw (p .0, take-at (written b lines) (drop (length (written b lines)) lines) r (sym (p .1))) at h)
   where
     go : (short : Bool) → Begins (text "SAFE") (cond short [] (linesOf b)) → SafeShow b
     go true q = absurd (cons≢nil (sym q))

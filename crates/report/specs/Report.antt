@@ -9,7 +9,7 @@
 -- safeLine, forbidLine, endText, runOffLine, refusedLine, stepText, pathLine — the lines, each with its newline, and their parts
 -- answerLines, judgementLines, showLines — the lines of an answer and its path list; of what Judge does; of a show's words
 -- linesOf      — the lines of any bytes
--- shown        — what goes to a list of bytes: the lines; nothing if it has under 4,096
+-- written        — what goes to a list of bytes: the lines; nothing if it has under 4,096
 -- Begins       — a list begins with another
 -- SafeShow     — the bytes hold the logic of a program, and it is safe
 use mathlib.Core.Path.{_≡_}
@@ -105,8 +105,8 @@ showLines ws = judgementLines (judged (logicIn ws) (lemmasIn ws))
 unfoldable pub linesOf : List ℕ → List ℕ
 linesOf b = cond (ltb mostBytes (length b)) (text "TOO LONG\n") (cond (eqb (length b % 4) 0) (showLines (wordsIn b)) (text "ODD BYTES\n"))
 
-abbrev pub shown : List ℕ → List ℕ → List ℕ
-shown b lines = cond (ltb (length lines) linesRoom) [] (linesOf b)
+abbrev pub written : List ℕ → List ℕ → List ℕ
+written b lines = cond (ltb (length lines) linesRoom) [] (linesOf b)
 
 -- ---- what a line is worth
 abbrev pub Begins : List ℕ → List ℕ → Type 0

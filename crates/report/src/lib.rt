@@ -8,7 +8,7 @@ ghost use Rattle.verdict.specs.Verdicts.{pathWords};
 ghost use Rattle.lines.specs.Text.{text};
 ghost use Rattle.lines.specs.Puts.{Put};
 ghost use Rattle.report.specs.Report.{mostBytes, linesRoom, logicLength, wordsIn, zeros, judged, stepsIn, endText, runOffLine, refusedLine};
-ghost use Rattle.report.specs.Report.{stepText, pathLine, answerLines, judgementLines, showLines, linesOf, shown, Begins, SafeShow};
+ghost use Rattle.report.specs.Report.{stepText, pathLine, answerLines, judgementLines, showLines, linesOf, written, Begins, SafeShow};
 use judge::Judged;
 use words::Kind;
 use words::Refusal;
@@ -162,8 +162,8 @@ fn put_show(out: &mut [u8], input: &[u8]) -> usize
 // answer is 0. Of more than 65,536 bytes, those behind the first 65,537 change nothing. If what was written begins with SAFE, the logic in the input is safe.
 pub fn report(input: &[u8], lines: &mut [u8]) -> usize
     ensures lines { λ r. ⌜ (now (lines .exit)
-        ≡ shown (now (input .entry)) (now (lines .entry)) ++ drop (length (shown (now (input .entry)) (now (lines .entry)))) (now (lines .entry)))
-        × (r ≡ length (shown (now (input .entry)) (now (lines .entry)))) ⌝ }
+        ≡ written (now (input .entry)) (now (lines .entry)) ++ drop (length (written (now (input .entry)) (now (lines .entry)))) (now (lines .entry)))
+        × (r ≡ length (written (now (input .entry)) (now (lines .entry)))) ⌝ }
     ensures cut { λ _. ⌜ ((more : List ℕ) → mostBytes < length (now (input .entry)) → linesOf (now (input .entry) ++ more) ≡ linesOf (now (input .entry))) ⌝ }
     ensures safe { λ r. ⌜ (Begins (text "SAFE") (take r (now (lines .exit))) → SafeShow (now (input .entry))) ⌝ }
 {

@@ -10,7 +10,7 @@ use borrow.Author.Tests.{ltb-true, ltb-false}
 use lib.ListN.{length, getD, List·getD-append}
 use lib.Seq.{getD-append-seam, getD-at}
 use lib.Dec.{ltb}
-use Rattle.search.specs.Search.{Answer, To, None, Origin, Root, From, Graph, Result, Done, Over, seek, empty, stored, linked, placed, rooted, begun, answered, acted, turns, nodeIf, node, run, explored, count, nodeWord, origin, edge}
+use Rattle.search.specs.Search.{Answer, To, None, Origin, Root, From, Graph, Result, Done, Over, seek, empty, stored, linked, placed, rooted, begun, answered, acted, turns, nodeIf, node, visited, explored, count, nodeWord, origin, edge}
 use Rattle.search.proofs.Reach.{Reach, first, onward, Distinct, AllOf, Many}
 use Rattle.search.proofs.Grown.{len-more, more, Grown, stored-grown}
 use Rattle.search.proofs.Count.{lt-or-le, same-place, row-below, seek-found, seek-bound, seek-le}
@@ -272,11 +272,11 @@ module _ (start : Answer) (next : ℕ → ℕ → Answer) (a limit : ℕ) where
   begun-holds (To w) is = rooted-holds w is (ltb 0 limit) refl
   begun-holds None is = (sym (zero-mul a) ∙ rw (min-eq-left {n = 0} {m = 0} (omega arith)), empty-sound is, empty-numbered a)
 
-  pub run-holds : (k : ℕ) → Holds (Out k) (run next a limit start k)
-  unfolding run
-  run-holds zero = begun-holds start refl
-  run-holds (suc k) = node-holds k (run next a limit start k) (run-holds k)
+  pub visited-holds : (k : ℕ) → Holds (Out k) (visited next a limit start k)
+  unfolding visited
+  visited-holds zero = begun-holds start refl
+  visited-holds (suc k) = node-holds k (visited next a limit start k) (visited-holds k)
 
   pub explored-holds : Holds (Out limit) (explored next a limit start)
   unfolding explored
-  explored-holds = run-holds limit
+  explored-holds = visited-holds limit

@@ -8,7 +8,7 @@ use mathlib.Core.Logic.{⊎-elim}
 use borrow.Author.Tests.{le-ltb}
 use lib.ListN.{length-append, List·getD-append}
 use lib.Dec.{ltb}
-use Rattle.search.specs.Search.{Answer, To, None, Origin, From, Graph, Result, Done, Over, count, nodeWord, seek, placed, answered, acted, turns, node, run, explored}
+use Rattle.search.specs.Search.{Answer, To, None, Origin, From, Graph, Result, Done, Over, count, nodeWord, seek, placed, answered, acted, turns, node, visited, explored}
 use Rattle.search.proofs.Count.{lt-or-le}
 
 -- node k of a result has the word w
@@ -43,24 +43,24 @@ module _ (next : ℕ → ℕ → Answer) (limit : ℕ) where
       ⊎-elim (λ lt. let s : i ≡ suc j = omega arith in rw s at e) (λ le. ap (λ (r : Result). acted next limit r k j) (turns-over g k i j le e)) (lt-or-le j i)
 
 module _ (next : ℕ → ℕ → Answer) (a limit : ℕ) (start : Answer) where
-  pub run-over : (i k : ℕ) → i ≤ k → run next a limit start i ≡ Over → run next a limit start k ≡ Over
-  unfolding run
-  run-over i zero h e = let z : i ≡ 0 = omega arith in rw z at e
-  run-over i (suc k) h e =
-      ⊎-elim (λ lt. let s : i ≡ suc k = omega arith in rw s at e) (λ le. ap (λ (r : Result). node next a limit r k) (run-over i k le e)) (lt-or-le k i)
+  pub visited-over : (i k : ℕ) → i ≤ k → visited next a limit start i ≡ Over → visited next a limit start k ≡ Over
+  unfolding visited
+  visited-over i zero h e = let z : i ≡ 0 = omega arith in rw z at e
+  visited-over i (suc k) h e =
+      ⊎-elim (λ lt. let s : i ≡ suc k = omega arith in rw s at e) (λ le. ap (λ (r : Result). node next a limit r k) (visited-over i k le e)) (lt-or-le k i)
 
-  pub run-settled : (g : Graph) (i k : ℕ) → i ≤ k → count g ≤ i → run next a limit start i ≡ Done g → run next a limit start k ≡ Done g
-  unfolding run
-  run-settled g i zero h b e = let z : i ≡ 0 = omega arith in rw z at e
-  run-settled g i (suc k) h b e =
+  pub visited-settled : (g : Graph) (i k : ℕ) → i ≤ k → count g ≤ i → visited next a limit start i ≡ Done g → visited next a limit start k ≡ Done g
+  unfolding visited
+  visited-settled g i zero h b e = let z : i ≡ 0 = omega arith in rw z at e
+  visited-settled g i (suc k) h b e =
       ⊎-elim (λ lt. let s : i ≡ suc k = omega arith in rw s at e)
-      (λ le. ap (λ (r : Result). node next a limit r k) (run-settled g i k le b e) ∙ rw (le-ltb k (count g) (omega arith))) (lt-or-le k i)
+      (λ le. ap (λ (r : Result). node next a limit r k) (visited-settled g i k le b e) ∙ rw (le-ltb k (count g) (omega arith))) (lt-or-le k i)
 
   -- the exploration is decided at any i at which it is over, or at which every node has had its turn
-  pub explored-over : (i : ℕ) → i ≤ limit → run next a limit start i ≡ Over → explored next a limit start ≡ Over
+  pub explored-over : (i : ℕ) → i ≤ limit → visited next a limit start i ≡ Over → explored next a limit start ≡ Over
   unfolding explored
-  explored-over i h e = run-over i limit h e
+  explored-over i h e = visited-over i limit h e
 
-  pub explored-done : (g : Graph) (i : ℕ) → i ≤ limit → count g ≤ i → run next a limit start i ≡ Done g → explored next a limit start ≡ Done g
+  pub explored-done : (g : Graph) (i : ℕ) → i ≤ limit → count g ≤ i → visited next a limit start i ≡ Done g → explored next a limit start ≡ Done g
   unfolding explored
-  explored-done g i h b e = run-settled g i limit h b e
+  explored-done g i h b e = visited-settled g i limit h b e

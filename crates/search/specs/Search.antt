@@ -10,7 +10,7 @@
 -- empty, stored, linked     — no node; one node more; one edge more
 -- placed, rooted, begun, answered — the graph with a word looked up; with node 0; at the start; after one action's turn, given its answer
 -- acted, turns    — after one action's turn; after the first j actions of node k
--- nodeIf, node, run, explored — after node k's turn; after the first k nodes; after all
+-- nodeIf, node, visited, explored — after node k's turn; after the first k nodes; after all
 use Prim.Native.Nat.{ℕ, zero, suc, _+_, _*_}
 use mathlib.Core.Bool.{Bool, true, false}
 use mathlib.Core.List.{List, [], _∷_, _++_}
@@ -111,9 +111,9 @@ module _ (next : ℕ → ℕ → Answer) (a limit : ℕ) where
   node Over k = Over
 
   -- after the first k nodes
-  unfoldable pub run : Answer → ℕ → Result
-  run start zero = begun limit start
-  run start (suc k) = node (run start k) k
+  unfoldable pub visited : Answer → ℕ → Result
+  visited start zero = begun limit start
+  visited start (suc k) = node (visited start k) k
 
   unfoldable pub explored : Answer → Result
-  explored start = run start limit
+  explored start = visited start limit

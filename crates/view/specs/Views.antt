@@ -2,7 +2,7 @@
 --
 -- edgeOf — what a word, which stands at a place, says of a successor
 -- viewed — the answer for a list, a number of nodes, a number of actions, a node and an action
--- shown  — a graph's edge as an answer
+-- edgeViewed — a graph's edge as an answer
 use Prim.Native.Nat.{ℕ}
 use mathlib.Core.Bool.{cond}
 use mathlib.Core.List.{List}
@@ -30,6 +30,6 @@ viewed l nodes actions node action =
     (cond (leb actions action) (Refused (Absent action))
     (edgeOf (getD l (edgePlace actions node action) 0) (edgePlace actions node action))))))
 
-abbrev pub shown : Answer → Viewed
-shown (To m) = Node m
-shown Nowhere = None
+abbrev pub edgeViewed : Answer → Viewed
+edgeViewed (To m) = Node m
+edgeViewed Nowhere = None

@@ -28,7 +28,7 @@ use Rattle.lemmas.specs.LemmaGrammar.{readLemmas, setsVariable, lemma, list}
 use Rattle.ask.specs.Calls.{noLemma, ask}
 use Rattle.ask.specs.declared.Asked.the-variants.{NotAccepted}
 use Rattle.formula.specs.Formula.{conjuncts}
-use Rattle.search.specs.Search.{linksIn, turns, run, explored}
+use Rattle.search.specs.Search.{linksIn, turns, visited, explored}
 use Rattle.search.specs.Paths.{back}
 use Rattle.records.specs.Records.{graphWords, edgeRow, recordsOf}
 use Rattle.words.specs.LiteralSets.{literalsIn, setOf}
@@ -114,7 +114,7 @@ pub record Table : Type 0 where
 pub worked : Table
 unfolding
     program ranges rows end coefs row assignment sets action due one times many setsVariable lemma list assigned plusTimes combine
-    dot corner firstOff conjuncts explored run turns linksIn literalsIn among allAmong applies setOf contradicted forbids runsOff rangeEnds
+    dot corner firstOff conjuncts explored visited turns linksIn literalsIn among allAmong applies setOf contradicted forbids runsOff rangeEnds
     findingsFrom edgeRow recordsOf back
 worked =
     record {

@@ -5,7 +5,7 @@ use Prim.Native.Nat.{ℕ, _≤_}
 use native.Mathlib.Omega.{arith}
 use lib.ListN.{length, take, drop, length-append}
 use lib.Seq.{length-take-le}
-use Rattle.report.specs.Report.{shown}
+use Rattle.report.specs.Report.{written}
 use borrow.Author.Needs.{needs}
 use Rattle.operator.proofs.main.Statement.{statement}
 use Rattle.operator.proofs.main.Tie as tie
@@ -41,7 +41,7 @@ array-share-prefix-lines : tie.Need-array-share-prefix-lines
 array-share-prefix-lines c =
     let b = take (c .before .before .before .before .before .before .read-full .result) (c .before .before .before .before .before .before .read-full .last .1 .0) in
     let l = c .before .before .before .before .buffer .result in
-    within (shown b l) (drop (length (shown b l)) l) (c .before .report .last .1 .0) (c .before .report .result) (c .before .report .ensures .0)
+    within (written b l) (drop (length (written b l)) l) (c .before .report .last .1 .0) (c .before .report .result) (c .before .report .ensures .0)
 
 slice-aggregate-write-all : tie.Need-slice-aggregate-write-all
 slice-aggregate-write-all c = sym (length-take-le (c .before .before .report .result) (c .before .before .report .last .1 .0) (array-share-prefix-lines (c .before)))
