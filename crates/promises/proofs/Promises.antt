@@ -1,5 +1,4 @@
 -- Every promise, with its type and nothing else. The definitions that the types name are in the crates' specs/ folders.
---
 -- The calls' own contracts stand in the sources, without any `requires`; all words are the lent lists' at entry:
 --   programs::check(words)             r ≡ check words                                                        crates/programs/src/lib.rt
 --   programs::action_part(words, k)    r ≡ actionPart words k, a part of words from word partPlace .start on  crates/programs/src/lib.rt
@@ -38,7 +37,8 @@ use Rattle.judge.specs.Calls.{judge}
 use Rattle.judge.specs.Worth.{Drawn, Demand2Of, SafeOf}
 use Rattle.view.specs.Views.{viewed, edgeViewed}
 use Rattle.lines.specs.Text.{text}
-use Rattle.report.specs.Report.{linesOf, Begins, SafeShow}
+use Rattle.show.specs.Show.{SafeShow}
+use Rattle.report.specs.Report.{linesOf, Begins}
 use Rattle.worked.specs.Shows.{fade, fadeLemmas, house, incident, fadeProgram, houseProgram, incidentProgram, bytesOf}
 
 -- the part of an ACTION word, up to, but without, the next ACTION, SETS or END, is the words of that action and nothing else

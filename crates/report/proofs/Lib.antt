@@ -1,4 +1,3 @@
-pub mod Logic
 pub mod Steps
 pub mod Sizes
 pub mod Paths

@@ -1,24 +1,21 @@
 -- A line that begins with SAFE: the logic in the bytes is a program, and it is safe.
 use mathlib.Core.Path.{_≡_, refl, sym, ap, _∙_}
-use mathlib.Core.Bool.{Bool, true, false, cond}
-use mathlib.Core.List.{List}
-use Prim.Native.Nat.{ℕ, _%_}
+use mathlib.Core.List.{List, []}
+use Prim.Native.Nat.{ℕ}
 use native.Mathlib.Omega.{arith}
-use lib.Dec.{eqb, ltb}
-use lib.ListN.{length, getD}
+use lib.ListN.{getD}
 use lib.Seq.{getD-take}
-use Rattle.grammar.specs.Reading.{Read, got, refused}
-use Rattle.grammar.specs.Programs.{Program}
-use Rattle.programs.specs.Calls.{read}
 use Rattle.records.specs.Records.{graphWords}
 use Rattle.verdict.specs.Verdicts.{pathWords}
-use Rattle.judge.specs.Worth.{SafeOf}
 use Rattle.judge.specs.declared.Judged.{Judged}
 use Rattle.judge.specs.declared.Judged.the-variants.{MayForbid, MayRunOff, Refused}
 use Rattle.judge.specs.declared.Judged.the-variants.{Safe as IsSafe}
-use Rattle.judge.proofs.Promised.{judge-safe}
+use Rattle.show.specs.declared.Shown.{Shown}
+use Rattle.show.specs.declared.Shown.the-variants.{WordsShort, TooLong, OddBytes, Answered}
+use Rattle.show.specs.Show.{shown, SafeShow}
+use Rattle.show.proofs.Safe.{shown-safe}
 use Rattle.lines.specs.Text.{text, line}
-use Rattle.report.specs.Report.{mostBytes, wordsIn, logicIn, lemmasIn, zeros, judged, runOffLine, answerLines, showLines, linesOf, Begins, SafeShow}
+use Rattle.report.specs.Report.{zeros, runOffLine, answerLines, shownLines, linesOf, Begins}
 
 -- the first byte is an S
 first-byte : (l : List ℕ) → Begins (text "SAFE") l → getD l 0 0 ≡ 83
@@ -31,24 +28,16 @@ answer-safe (MayForbid k b n e) path h = absurd (omega (arith, first-byte (answe
 answer-safe (MayRunOff k j v high n e) path h = absurd (omega (arith, first-byte (answerLines (MayRunOff k j v high n e) path) h))
 answer-safe (Refused r) path h = absurd (omega (arith, first-byte (answerLines (Refused r) path) h))
 
-module _ (b : List ℕ) where
-  told : (m : Read Program) → read (logicIn (wordsIn b)) ≡ m → SafeOf m → SafeShow b
-  told (got p ws i) e s = record { program = p; rest = ws; at = i; is = e; safe = s }
-  told (refused r) e s = absurd s
+lines-safe : (s : Shown) (path : List ℕ) → Begins (text "SAFE") (shownLines s path) → (l : ℕ) × (m : ℕ) × (n : ℕ) × (e : ℕ) × (s ≡ Answered l m (IsSafe n e))
+unfolding shownLines
+lines-safe WordsShort path h = absurd (omega (arith, first-byte [] h))
+lines-safe TooLong path h = absurd (omega (arith, first-byte (text "TOO LONG\n") h))
+lines-safe OddBytes path h = absurd (omega (arith, first-byte (text "ODD BYTES\n") h))
+lines-safe (Answered l m a) path h = let (n, e, is) = answer-safe a path h in (l, m, n, e, ap (Answered l m) is)
 
-  judged-safe : Begins (text "SAFE") (showLines (wordsIn b)) → SafeShow b
-  unfolding judged
-  judged-safe h =
-      let logic = logicIn (wordsIn b) in
-      let lemmas = lemmasIn (wordsIn b) in
-      let f = answer-safe (judged logic lemmas .answer) (judged logic lemmas .path) h in
-      told (read logic) refl (judge-safe logic lemmas (zeros graphWords) (zeros pathWords) (f .2))
-
-  by-length : (long whole : Bool) → Begins (text "SAFE") (cond long (text "TOO LONG\n") (cond whole (showLines (wordsIn b)) (text "ODD BYTES\n"))) → SafeShow b
-  by-length true whole h = absurd (omega (arith, first-byte (text "TOO LONG\n") h))
-  by-length false true h = judged-safe h
-  by-length false false h = absurd (omega (arith, first-byte (text "ODD BYTES\n") h))
-
-  pub show-safe : Begins (text "SAFE") (linesOf b) → SafeShow b
-  unfolding linesOf
-  show-safe h = by-length (ltb mostBytes (length b)) (eqb (length b % 4) 0) h
+pub show-safe : (b : List ℕ) → Begins (text "SAFE") (linesOf b) → SafeShow b
+unfolding linesOf
+show-safe b h =
+    let s = shown b (zeros graphWords) (zeros pathWords) in
+    let (l, m, n, e, is) = lines-safe (s .answer) (s .path) h in
+    shown-safe b (zeros graphWords) (zeros pathWords) l m n e is

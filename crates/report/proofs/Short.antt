@@ -2,9 +2,9 @@
 use mathlib.Core.Path.{_≡_, refl}
 use mathlib.Core.Bool.{Bool, true, false, cond}
 use mathlib.Core.List.{List, [], _∷_}
-use Prim.Native.Nat.{ℕ, _+_, _<_, _≤_}
+use Prim.Native.Nat.{ℕ, _+_, _%_, _<_, _≤_}
 use native.Mathlib.Omega.{arith}
-use lib.Dec.{ltb}
+use lib.Dec.{eqb, ltb}
 use lib.ListN.{length, length-append}
 use Rattle.words.specs.declared.Refusal.{Refusal}
 use Rattle.words.specs.declared.Refusal.the-variants.{Short, Nodes, Sum}
@@ -21,18 +21,20 @@ use Rattle.records.specs.Records.{graphWords}
 use Rattle.abstraction.specs.Abstraction.{graph}
 use Rattle.tables.specs.Off.{firstOff}
 use Rattle.verdict.specs.Verdicts.{Finding, Forbid, RunOff, findings, nodeOf, stepsTo, pathWords, pathList}
-use Rattle.judge.specs.Calls.{Judgement, keep, verdict, pathTo, judgeGraph, judgeLemmas, judgeProgram}
+use Rattle.judge.specs.Calls.{Judgement, keep, verdict, pathTo, judgeGraph, judgeLemmas, judgeProgram, judge}
 use Rattle.judge.specs.declared.Judged.the-variants.{Refused}
 use Rattle.judge.proofs.Walks.{findings-within}
+use Rattle.show.specs.declared.Shown.the-variants.{TooLong, OddBytes}
+use Rattle.show.specs.Show.{mostBytes, wordsIn, logicIn, lemmasIn, showIn, shown}
 use Rattle.lines.specs.Text.{text, decimal, line}
 use Rattle.lines.proofs.Puts.{length-line}
 use Rattle.lines.proofs.Decimals.{decimal-short}
-use Rattle.report.specs.Report.{linesRoom, zeros, judged, stepsIn, forbidLine, endText, runOffLine, pathLine, answerLines, judgementLines}
+use Rattle.report.specs.Report.{linesRoom, zeros, stepsIn, forbidLine, endText, runOffLine, pathLine, answerLines, shownLines, linesOf}
 use Rattle.report.proofs.Sizes.{length-run-off, length-path}
 use Rattle.report.proofs.Paths.{steps-told, steps-room}
 
 abbrev Room : Judgement → Type 0
-Room j = length (judgementLines j) ≤ linesRoom
+Room j = length (answerLines (j .answer) (j .path)) ≤ linesRoom
 
 line-short : (t : List ℕ) (n : ℕ) (u : List ℕ) (m : ℕ) → length (line t n u m) ≤ length t + length u + 41
 line-short t n u m = omega (arith, length-line t n u m, length-append t (decimal n), length-append u (decimal m), decimal-short n, decimal-short m)
@@ -76,11 +78,21 @@ program-room : (ws lemmas gl : List ℕ) (m : Read Program) → read ws ≡ m �
 program-room ws lemmas gl (refused r) e = refused-room r (zeros pathWords)
 program-room ws lemmas gl (got p us i) e = lemmas-room p (accepted ws p us i e .good) gl (readLemmas p lemmas)
 
-pub judged-room : (logic lemmas : List ℕ) → length (judgementLines (judged logic lemmas)) ≤ linesRoom
-unfolding judged
+judged-room : (logic lemmas : List ℕ) → Room (judge logic lemmas (zeros graphWords) (zeros pathWords))
 judged-room logic lemmas =
     let gl = zeros graphWords in
     let pl = zeros pathWords in
     let inner = judgeProgram (read logic) lemmas gl pl in
     by-test (ltb (length gl) graphWords) (keep (Refused (Short 0)) gl pl) (cond (ltb (length pl) pathWords) (keep (Refused (Short 1)) gl pl) inner) (refused-room (Short 0) pl)
     (by-test (ltb (length pl) pathWords) (keep (Refused (Short 1)) gl pl) inner (refused-room (Short 1) pl) (program-room logic lemmas gl (read logic) refl))
+
+pub lines-room : (b : List ℕ) → length (linesOf b) ≤ linesRoom
+unfolding linesOf shownLines shown
+lines-room b = go (ltb mostBytes (length b)) (eqb (length b % 4) 0)
+  where
+    go : (long whole : Bool) → let s = cond long (record { answer = TooLong; graph = zeros graphWords; path = zeros pathWords })
+        (cond whole (showIn (wordsIn b) (zeros graphWords) (zeros pathWords)) (record { answer = OddBytes; graph = zeros graphWords; path = zeros pathWords }))
+        in length (shownLines (s .answer) (s .path)) ≤ linesRoom
+    go true whole = omega arith
+    go false true = judged-room (logicIn (wordsIn b)) (lemmasIn (wordsIn b))
+    go false false = omega arith

@@ -7,9 +7,11 @@ ghost use Rattle.records.specs.Records.{graphWords};
 ghost use Rattle.verdict.specs.Verdicts.{pathWords};
 ghost use Rattle.lines.specs.Text.{text};
 ghost use Rattle.lines.specs.Puts.{Put};
-ghost use Rattle.report.specs.Report.{mostBytes, linesRoom, logicLength, wordsIn, zeros, judged, stepsIn, endText, runOffLine, refusedLine};
-ghost use Rattle.report.specs.Report.{stepText, pathLine, answerLines, judgementLines, showLines, linesOf, written, Begins, SafeShow};
+ghost use Rattle.show.specs.Show.{mostBytes, SafeShow};
+ghost use Rattle.report.specs.Report.{zeros, stepsIn, endText, runOffLine, refusedLine};
+ghost use Rattle.report.specs.Report.{stepText, pathLine, answerLines, shownLines, linesOf, written, Begins};
 use judge::Judged;
+use show::Shown;
 use words::Kind;
 use words::Refusal;
 
@@ -113,49 +115,17 @@ fn path_list() -> [u32; verdict::PATH_ROOM]
     [0; verdict::PATH_ROOM]
 }
 
-// The lines of a logic and its lemmas.
-fn put_lists(out: &mut [u8], logic: &[u32], lemmas: &[u32]) -> usize
-    requires { ⌜ linesRoom ≤ length (now out) ⌝ }
-    ensures { λ r. ⌜ Put (now (out .entry)) 0 (judgementLines (judged (now (logic .entry)) (now (lemmas .entry)))) (now (out .exit)) r ⌝ }
+// The lines of an answer for a show's bytes.
+fn put_shown(out: &mut [u8], shown: Shown, path: &[u32]) -> usize
+    requires { ⌜ length (shownLines shown (now path)) ≤ length (now out) ⌝ }
+    ensures { λ r. ⌜ Put (now (out .entry)) 0 (shownLines shown (now (path .entry))) (now (out .exit)) r ⌝ }
 {
-    let mut graph = graph_list();
-    let mut path = path_list();
-    let answer = judge::judge(logic, lemmas, &mut graph, &mut path);
-    put_answer(&mut *out, answer, &path)
-}
-
-// How many words belong to the logic.
-fn logic_length(words: &[u32]) -> usize
-    ensures { λ r. ⌜ (r ≡ logicLength (now (words .entry))) × (r ≤ length (now (words .entry))) ⌝ }
-{
-    let mut i: usize = 0;
-    while i < words.len() {
-        if Kind::of(words[i]).is(Kind::END) {
-            return i + 1;
-        }
-        i += 1;
+    match shown {
+        Shown::WordsShort => 0,
+        Shown::TooLong => lines::put_bytes(&mut *out, 0, b"TOO LONG\n"),
+        Shown::OddBytes => lines::put_bytes(&mut *out, 0, b"ODD BYTES\n"),
+        Shown::Answered(_, _, answer) => put_answer(&mut *out, answer, path),
     }
-    i
-}
-
-// The lines of a show's words.
-fn put_words(out: &mut [u8], words: &[u32]) -> usize
-    requires { ⌜ linesRoom ≤ length (now out) ⌝ }
-    ensures { λ r. ⌜ Put (now (out .entry)) 0 (showLines (now (words .entry))) (now (out .exit)) r ⌝ }
-{
-    let n = logic_length(words);
-    put_lists(&mut *out, &words[..n], &words[n..])
-}
-
-// The lines of a show's bytes, of which there are not too many.
-fn put_show(out: &mut [u8], input: &[u8]) -> usize
-    requires { ⌜ (linesRoom ≤ length (now out)) × (length (now input) ≤ mostBytes) ⌝ }
-    ensures { λ r. ⌜ Put (now (out .entry)) 0 (showLines (wordsIn (now (input .entry)))) (now (out .exit)) r ⌝ }
-{
-    let n = input.len() / 4;
-    let mut space = little::space();
-    little::to_words(input, &mut space, n);
-    put_words(&mut *out, &space[..n])
 }
 
 // The lines of any bytes, at the front of `lines`; answers how many bytes they have. Where `lines` has under 4,096 bytes it is left, and the
@@ -170,11 +140,9 @@ pub fn report(input: &[u8], lines: &mut [u8]) -> usize
     if lines.len() < 4096 {
         return 0;
     }
-    if input.len() > 65536 {
-        return lines::put_bytes(&mut *lines, 0, b"TOO LONG\n");
-    }
-    if input.len() % 4 != 0 {
-        return lines::put_bytes(&mut *lines, 0, b"ODD BYTES\n");
-    }
-    put_show(&mut *lines, input)
+    let mut words = little::space();
+    let mut graph = graph_list();
+    let mut path = path_list();
+    let shown = show::show(input, &mut words, &mut graph, &mut path);
+    put_shown(&mut *lines, shown, &path)
 }

@@ -6,11 +6,12 @@ use native.Mathlib.Omega.{arith}
 use lib.ListN.{length, length-replicate}
 use Rattle.records.specs.Records.{graphWords}
 use Rattle.verdict.specs.Verdicts.{pathWords}
-use Rattle.judge.specs.Calls.{Judgement}
+use Rattle.judge.specs.Calls.{Judgement, judge}
 use Rattle.judge.specs.declared.Judged.the-variants.{Safe}
 use Rattle.lines.specs.Text.{text, spelled, decimal, line}
 use Rattle.little.specs.LittleEndian.{wordsOf}
-use Rattle.report.specs.Report.{logicLength, wordsIn, logicIn, lemmasIn, zeros, judged, answerLines, judgementLines, linesOf}
+use Rattle.show.specs.Show.{logicLength, wordsIn, logicIn, lemmasIn, shown}
+use Rattle.report.specs.Report.{zeros, answerLines, shownLines, linesOf}
 use Rattle.worked.specs.Shows.{fade, fadeLemmas, bytesOf}
 use Rattle.worked.proofs.Table.{fadeRecords, left, worked}
 
@@ -26,13 +27,12 @@ long : (n : ℕ) → n ≤ length (zeros n)
 unfolding zeros
 long n = omega (arith, length-replicate {A = ℕ} n 0)
 
-fade-judged : judged fade fadeLemmas .answer ≡ Safe 1 2
-unfolding judged
+fade-judged : judge fade fadeLemmas (zeros graphWords) (zeros pathWords) .answer ≡ Safe 1 2
 fade-judged = ap (λ (j : Judgement). j .answer) (worked .a (zeros graphWords) (zeros pathWords) (long graphWords) (long pathWords))
 
 pub fade-line : linesOf (bytesOf (fade ++ fadeLemmas)) ≡ text "SAFE nodes 1 edges 2\n"
-unfolding linesOf bytesOf answerLines line decimal spelled
+unfolding linesOf shown shownLines bytesOf answerLines line decimal spelled
 fade-line = rw (fade-words, fade-logic .0, fade-logic .1, fade-judged) spelled-out
   where
-    spelled-out : answerLines (Safe 1 2) (judged fade fadeLemmas .path) ≡ text "SAFE nodes 1 edges 2\n"
+    spelled-out : answerLines (Safe 1 2) (judge fade fadeLemmas (zeros graphWords) (zeros pathWords) .path) ≡ text "SAFE nodes 1 edges 2\n"
     spelled-out = refl

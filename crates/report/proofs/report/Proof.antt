@@ -1,5 +1,9 @@
+use mathlib.Core.Path.{_≡_, ap}
 use native.Mathlib.Omega.{arith}
-use Rattle.report.proofs.Cases.{cut, no-room, too-long, odd-bytes, whole-words, written-safe}
+use lib.ListN.{length}
+use Rattle.report.specs.Report.{shownLines, linesOf}
+use Rattle.report.proofs.Short.{lines-room}
+use Rattle.report.proofs.Cases.{with-fresh, cut, no-room, reported, written-safe}
 use borrow.Author.Needs.{needs}
 use Rattle.report.proofs.report.Statement.{statement}
 use Rattle.report.proofs.report.Tie as tie
@@ -10,46 +14,48 @@ returns c =
     let said = no-room (a .input .now) (a .lines .now) (omega arith) in
     (said, (cut (a .input .now), written-safe (a .input .now) (a .lines .now) said))
 
-slice-aggregate-put-bytes : tie.Need-slice-aggregate-put-bytes
-slice-aggregate-put-bytes c = search needs
+space-requires : tie.Need-space-requires
+space-requires c κs = search needs
 
-put-bytes-requires : tie.Need-put-bytes-requires
-put-bytes-requires c κs = search needs
+graph-list-requires : tie.Need-graph-list-requires
+graph-list-requires c κs = search needs
+
+path-list-requires : tie.Need-path-list-requires
+path-list-requires c κs = search needs
+
+slice-aggregate-show : tie.Need-slice-aggregate-show
+slice-aggregate-show c = search needs
+
+slice-aggregate-show-2 : tie.Need-slice-aggregate-show-2
+slice-aggregate-show-2 c = search needs
+
+slice-aggregate-show-3 : tie.Need-slice-aggregate-show-3
+slice-aggregate-show-3 c = search needs
+
+show-requires : tie.Need-show-requires
+show-requires c κs = search needs
+
+slice-aggregate-put-shown : tie.Need-slice-aggregate-put-shown
+slice-aggregate-put-shown c = search needs
+
+lines-are : (c : tie.After-show) → shownLines (c .show .result) (c .show .last .1 .1 .1 .0) ≡ linesOf (c .before .before .before .before .before .before .before .before .before .before .args .input .now)
+lines-are c =
+    let w = c .before .before .before .before .before .before .space in
+    let g = c .before .before .before .before .before .graph-list in
+    let p = c .before .before .before .before .path-list in
+    let s = c .show in
+    with-fresh (c .before .before .before .before .before .before .before .before .before .before .args .input .now) (w .result) (g .result) (p .result) (s .result) (s .last .1 .1 .1 .0) (omega (arith, w .ensures)) (g .ensures .1) (p .ensures .1) (s .ensures .0) (s .ensures .1 .1 .1 .0)
+
+put-shown-requires : tie.Need-put-shown-requires
+put-shown-requires c κs = omega (arith, ap length (lines-are (c .before .before .before .before .before)), lines-room (c .before .before .before .before .before .before .before .before .before .before .before .before .before .before .before .args .input .now))
 
 same-length : tie.Need-same-length
 same-length c = search needs
 
 returns-2 : tie.Need-returns-2
 returns-2 c =
-    let a = c .before .before .before .before .before .before .before .before .before .args in
-    let said = too-long (a .input .now) (a .lines .now) (omega arith) (omega arith) (c .before .before .put-bytes .ensures) in
-    (said, (cut (a .input .now), written-safe (a .input .now) (a .lines .now) said))
-
-slice-aggregate-put-bytes-2 : tie.Need-slice-aggregate-put-bytes-2
-slice-aggregate-put-bytes-2 c = search needs
-
-put-bytes-requires-2 : tie.Need-put-bytes-requires-2
-put-bytes-requires-2 c κs = search needs
-
-same-length-2 : tie.Need-same-length-2
-same-length-2 c = search needs
-
-returns-3 : tie.Need-returns-3
-returns-3 c =
-    let a = c .before .before .before .before .before .before .before .before .before .before .args in
-    let said = odd-bytes (a .input .now) (a .lines .now) (omega arith) (omega arith) (c .before .before .before .before .before .if3 .taken) (c .before .before .put-bytes2 .ensures) in
-    (said, (cut (a .input .now), written-safe (a .input .now) (a .lines .now) said))
-
-put-show-requires : tie.Need-put-show-requires
-put-show-requires c κs = search needs
-
-same-length-3 : tie.Need-same-length-3
-same-length-3 c = search needs
-
-returns-4 : tie.Need-returns-4
-returns-4 c =
-    let a = c .before .before .before .before .before .before .before .before .before .args in
-    let said = whole-words (a .input .now) (a .lines .now) (omega arith) (omega arith) (c .before .before .before .before .if3 .left) (c .before .before .put-show .ensures) in
+    let a = c .before .before .before .before .before .before .before .before .before .before .before .before .before .before .before .before .before .before .args in
+    let said = reported (a .input .now) (a .lines .now) (omega arith) (rw (lines-are (c .before .before .before .before .before .before .before .before)) at (c .before .before .put-shown .ensures)) in
     (said, (cut (a .input .now), written-safe (a .input .now) (a .lines .now) said))
 
 pub report-spec : {M : Type 1} → statement M
@@ -57,14 +63,14 @@ report-spec =
     tie.close
     (tie.spec
     returns
-    slice-aggregate-put-bytes
-    put-bytes-requires
+    space-requires
+    graph-list-requires
+    path-list-requires
+    slice-aggregate-show
+    slice-aggregate-show-2
+    slice-aggregate-show-3
+    show-requires
+    slice-aggregate-put-shown
+    put-shown-requires
     same-length
-    returns-2
-    slice-aggregate-put-bytes-2
-    put-bytes-requires-2
-    same-length-2
-    returns-3
-    put-show-requires
-    same-length-3
-    returns-4)
+    returns-2)

@@ -9,7 +9,7 @@ use lib.Dec.{eqb}
 use lib.ListN.{length, drop, getD, drop-of-length-le}
 use lib.Seq.{drop-cons}
 use Rattle.words.specs.Words.{kindOf, END}
-use Rattle.report.specs.Report.{logicLength}
+use Rattle.show.specs.Show.{logicLength}
 
 module _ (ws : List ℕ) (i n : ℕ) (inv : i + logicLength (drop i ws) ≡ n) where
   pub ends-here : i < length ws → eqb (kindOf (getD ws i 0)) END ≡ true → i + 1 ≡ n

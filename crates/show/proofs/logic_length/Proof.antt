@@ -6,10 +6,10 @@ use lib.Dec.{eqb}
 use lib.ListN.{length, drop, getD}
 use borrow.Author.Needs.{needs}
 use Rattle.words.specs.Words.{kindOf, END}
-use Rattle.report.specs.Report.{logicLength}
-use Rattle.report.proofs.Logic.{ends-here, goes-on, ends-there}
-use Rattle.report.proofs.logic_length.Statement.{statement}
-use Rattle.report.proofs.logic_length.Tie as tie
+use Rattle.show.specs.Show.{logicLength}
+use Rattle.show.proofs.Logic.{ends-here, goes-on, ends-there}
+use Rattle.show.proofs.logic_length.Statement.{statement}
+use Rattle.show.proofs.logic_length.Tie as tie
 
 abbrev Inv-loop : tie.InvT-loop
 Inv-loop words i₀ i = (i ≤ length words) × (i + logicLength (drop i words) ≡ logicLength words)

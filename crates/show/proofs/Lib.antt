@@ -1,0 +1,3 @@
+pub mod Logic
+pub mod Cases
+pub mod Safe
