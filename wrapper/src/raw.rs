@@ -2,7 +2,19 @@
 //! that an answer does not use are 0. No answer is 0, and a number that is not named here permits nothing. There is no
 //! `Default`: a record comes from a call.
 
-/// Kinds of words that this crate looks for.
+/// The kinds of words.
+pub const BNV_VAR: u32 = 1;
+pub const BNV_ROW: u32 = 2;
+pub const BNV_TERM: u32 = 3;
+pub const BNV_INIT: u32 = 4;
+pub const BNV_PRED: u32 = 5;
+pub const BNV_ACTION: u32 = 6;
+pub const BNV_SET: u32 = 7;
+pub const BNV_SETS: u32 = 8;
+pub const BNV_LEMMA: u32 = 9;
+pub const BNV_MULT: u32 = 10;
+pub const BNV_ORIGIN: u32 = 11;
+pub const BNV_EDGE: u32 = 12;
 pub const BNV_STEP: u32 = 13;
 pub const BNV_END: u32 = 15;
 
