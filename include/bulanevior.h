@@ -25,6 +25,10 @@
  *    own may run at the same time.
  *
  * Lengths, counts, indices and places are 64-bit numbers, counted from 0. A field that an answer does not use is 0.
+ *
+ * No answer is 0, in `answer` or in `verdict`: a record of zeros, or one that no call has filled, permits nothing. Ask for the answer
+ * that permits (`== BNV_SAFE`), never for the absence of another; a number that is named nowhere below permits nothing either. It means
+ * that this header and the library are of different versions: CHANGELOG.md says which numbers moved.
  */
 #ifndef BULANEVIOR_H
 #define BULANEVIOR_H
@@ -38,6 +42,8 @@ static_assert(sizeof(size_t) == 8, "64-bit numbers only");
 #else
 _Static_assert(sizeof(size_t) == 8, "64-bit numbers only");
 #endif
+
+#define BNV_VERSION "0.2.0"
 
 /* ---- Words: the kind in bits 31 to 28, the payload in bits 27 to 0. */
 
@@ -92,8 +98,12 @@ _Static_assert(sizeof(size_t) == 8, "64-bit numbers only");
 
 /* ---- Check: is the list a program, and how many variables, start rows, predicates, actions and forbidden combinations has it? */
 
+#define BNV_GOOD 1u
+#define BNV_CHECK_REFUSED 2u
+
 typedef struct {
-    uint32_t refusal; /* 0, or 2 to 4 */
+    uint32_t answer;
+    uint32_t refusal; /* BNV_CHECK_REFUSED: 2 to 4 */
     size_t value;     /* the refusal's */
     size_t variables; /* the five counts, 0 with a refusal */
     size_t start_rows;
@@ -123,10 +133,10 @@ BnvPart bnv_action_part(const uint32_t *words, size_t words_length, size_t k);
  * Only BNV_MOVED writes the state: the new values. Refusals in the order 2 to 4, 8, 9, 10.
  */
 
-#define BNV_MOVED 0u
 #define BNV_NOT_ENABLED 1u
 #define BNV_RUNS_OFF 2u
 #define BNV_STEP_REFUSED 3u
+#define BNV_MOVED 4u
 
 typedef struct {
     uint32_t answer;
@@ -143,9 +153,9 @@ BnvStep bnv_step(const uint32_t *words, size_t words_length, size_t k, int32_t *
  * Refusals in the order 2 to 4, 5 and 6, 8, 11.
  */
 
-#define BNV_ACCEPTED 0u
 #define BNV_NOT_ACCEPTED 1u
 #define BNV_ASK_REFUSED 2u
+#define BNV_ACCEPTED 3u
 
 typedef struct {
     uint32_t answer;
@@ -167,10 +177,10 @@ BnvAsk bnv_ask(const uint32_t *words, size_t words_length, const uint32_t *lemma
  * node, and zeroes after them. Refusals in the order 1 graph, 1 path, 2 to 4, 5 and 6, 11, 7.
  */
 
-#define BNV_SAFE 0u
 #define BNV_MAY_FORBID 1u
 #define BNV_MAY_RUN_OFF 2u
 #define BNV_JUDGE_REFUSED 3u
+#define BNV_SAFE 4u
 
 typedef struct {
     uint32_t verdict;
@@ -194,9 +204,9 @@ BnvJudge bnv_judge(const uint32_t *words, size_t words_length, const uint32_t *l
  * 8 for the action, 2.
  */
 
-#define BNV_NODE 0u
 #define BNV_NO_NODE 1u
 #define BNV_SUCCESSOR_REFUSED 2u
+#define BNV_NODE 3u
 
 typedef struct {
     uint32_t answer;

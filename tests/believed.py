@@ -19,6 +19,7 @@ CALLS = {
     "runs": ["step"],
     "ask": ["ask"],
     "judge": ["judge"],
+    "show": ["show"],
     "view": ["new", "successor", "successor_at", "successor_of"],
     "report": ["report"],
     "exports": [],

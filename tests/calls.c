@@ -59,12 +59,12 @@ static int left(size_t from_graph, size_t from_path)
 static void check(void)
 {
     BnvCheck c = bnv_check(fade, LOGIC);
-    CHECK(c.refusal == 0 && c.value == 0 && c.variables == 1 && c.start_rows == 0);
+    CHECK(c.answer == BNV_GOOD && c.refusal == 0 && c.value == 0 && c.variables == 1 && c.start_rows == 0);
     CHECK(c.predicates == 0 && c.actions == 2 && c.forbidden == 0);
     c = bnv_check(fade, LOGIC - 1);
-    CHECK(c.refusal == BNV_REFUSED_WORD && c.value == LOGIC - 1 && c.variables == 0 && c.actions == 0);
+    CHECK(c.answer == BNV_CHECK_REFUSED && c.refusal == BNV_REFUSED_WORD && c.value == LOGIC - 1 && c.variables == 0 && c.actions == 0);
     c = bnv_check(NULL, 0);
-    CHECK(c.refusal == BNV_REFUSED_WORD && c.value == 0);
+    CHECK(c.answer == BNV_CHECK_REFUSED && c.refusal == BNV_REFUSED_WORD && c.value == 0);
 }
 
 static void action_part(void)

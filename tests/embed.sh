@@ -3,13 +3,12 @@
 # It prints `ok` at the end. `rt staticlib exports` is run only where the library is missing.
 set -eu
 cd "$(dirname "$(readlink -f "$0")")/.."
-rt=$(command -v rt) || rt=/opt/rattle/bin/rt
 room=$(mktemp -d)
 trap 'rm -rf "$room"' EXIT
 library=target/staticlib/libexports.a
 export CARGO_TARGET_DIR=$room/cargo
 
-[ -f "$library" ] || "$rt" staticlib exports >"$room/rt" 2>&1 || { cat "$room/rt"; exit 1; }
+[ -f "$library" ] || rt staticlib exports >"$room/rt" 2>&1 || { cat "$room/rt"; exit 1; }
 
 compile() { # SOURCE PROGRAM
     cc -std=c11 -O2 -Wall -Wextra -Werror -pedantic -Iinclude "$1" "$library" -o "$2"

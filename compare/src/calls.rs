@@ -4,7 +4,7 @@ use crate::counts::*;
 use crate::dice::Dice;
 use crate::generate::Input;
 use crate::other;
-use bulanevior::raw::{self as library, BnvJudge};
+use bulanevior::raw::{self as library, BnvJudge, BNV_JUDGE_REFUSED, BNV_NODE, BNV_NO_NODE, BNV_SAFE};
 use independent::words::{EDGE, GRAPH_WORDS, HEADER, MAX_NODES, PATH_WORDS};
 
 /// Words before and behind each lent list that no call may touch.
@@ -98,7 +98,7 @@ impl Compare {
         Ok(())
     }
 
-    /// True if accepted.
+    /// The answer's number.
     pub fn ask(&mut self, input: &Input, k: usize) -> Result<u32, Difference> {
         let ours = library::ask(&input.program, &input.lemmas, k);
         let theirs = other::ask(&input.program, &input.lemmas, k);
@@ -142,11 +142,11 @@ impl Compare {
     fn note_judge(&mut self, j: &BnvJudge, path: usize) {
         let counts = &mut self.counts;
         counts.note(judge_name(j.verdict, j.high, j.refusal, j.value));
-        if j.verdict == 3 {
+        if j.verdict == BNV_JUDGE_REFUSED {
             return;
         }
         counts.note(nodes_name(j.nodes));
-        if j.verdict == 0 && j.nodes >= 64 {
+        if j.verdict == BNV_SAFE && j.nodes >= 64 {
             counts.note("safe, 64 nodes or more");
         }
         if j.node > 0 {
@@ -170,8 +170,8 @@ impl Compare {
         let theirs = other::successor(graph, nodes, actions, node, action);
         self.calls += 1;
         self.counts.note(match (theirs.answer, theirs.refusal) {
-            (0, _) => "view node",
-            (1, _) => "view none",
+            (BNV_NODE, _) => "view node",
+            (BNV_NO_NODE, _) => "view none",
             (_, 1) => "view refusal 1",
             (_, 2) => "view refusal 2",
             (_, 3) => "view refusal 3",
@@ -207,10 +207,10 @@ impl Compare {
         }
         let (graph, path) = (length(dice, GRAPH_WORDS, LONGEST), length(dice, PATH_WORDS, 2000));
         let judged = self.judge(input, graph, path, dice.below(1024))?;
-        if judged.verdict == 0 && input.program.len() > 1 && input.program[input.program.len() - 2] >> 28 == 8 {
+        if judged.verdict == BNV_SAFE && input.program.len() > 1 && input.program[input.program.len() - 2] >> 28 == 8 {
             self.counts.note("safe, combinations named");
         }
-        if judged.verdict != 3 {
+        if judged.verdict != BNV_JUDGE_REFUSED {
             self.views(judged.nodes, check.actions, dice)?;
         } else if dice.percent(3) {
             self.views(dice.below(20), check.actions, dice)?;
@@ -219,7 +219,7 @@ impl Compare {
         if mine.program != input.program || mine.lemmas != input.lemmas {
             return Err(differ(&mine, "a list lent for reading", &input.program, &input.lemmas));
         }
-        Ok(if judged.verdict == 3 && judged.refusal == 1 { None } else { Some(judged) })
+        Ok(if judged.verdict == BNV_JUDGE_REFUSED && judged.refusal == 1 { None } else { Some(judged) })
     }
 
     /// Questions to the reading view over the graph list of the last judge.

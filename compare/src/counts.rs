@@ -1,5 +1,6 @@
 //! How often each answer occurred.
 
+use bulanevior::raw::*;
 use std::collections::BTreeMap;
 
 #[derive(Default)]
@@ -60,9 +61,9 @@ pub fn check_name(refusal: u32) -> &'static str {
 
 pub fn step_name(answer: u32, refusal: u32) -> &'static str {
     match (answer, refusal) {
-        (0, _) => "step moved",
-        (1, _) => "step not enabled",
-        (2, _) => "step runs off",
+        (BNV_MOVED, _) => "step moved",
+        (BNV_NOT_ENABLED, _) => "step not enabled",
+        (BNV_RUNS_OFF, _) => "step runs off",
         (_, 2) => "step refusal 2",
         (_, 3) => "step refusal 3",
         (_, 4) => "step refusal 4",
@@ -74,8 +75,8 @@ pub fn step_name(answer: u32, refusal: u32) -> &'static str {
 
 pub fn ask_name(answer: u32, refusal: u32) -> &'static str {
     match (answer, refusal) {
-        (0, _) => "ask accepted",
-        (1, _) => "ask not accepted",
+        (BNV_ACCEPTED, _) => "ask accepted",
+        (BNV_NOT_ACCEPTED, _) => "ask not accepted",
         (_, 2) => "ask refusal 2",
         (_, 3) => "ask refusal 3",
         (_, 4) => "ask refusal 4",
@@ -87,10 +88,10 @@ pub fn ask_name(answer: u32, refusal: u32) -> &'static str {
 
 pub fn judge_name(verdict: u32, high: u32, refusal: u32, value: usize) -> &'static str {
     match (verdict, high, refusal, value) {
-        (0, _, _, _) => "judge safe",
-        (1, _, _, _) => "judge forbid",
-        (2, 0, _, _) => "judge run-off low",
-        (2, _, _, _) => "judge run-off high",
+        (BNV_SAFE, _, _, _) => "judge safe",
+        (BNV_MAY_FORBID, _, _, _) => "judge forbid",
+        (BNV_MAY_RUN_OFF, 0, _, _) => "judge run-off low",
+        (BNV_MAY_RUN_OFF, _, _, _) => "judge run-off high",
         (_, _, 1, 0) => "judge refusal 1 graph",
         (_, _, 1, _) => "judge refusal 1 path",
         (_, _, 2, _) => "judge refusal 2",

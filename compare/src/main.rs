@@ -13,7 +13,7 @@ mod sweep;
 use calls::{hexadecimal, Compare, Difference};
 use dice::Dice;
 use generate::Input;
-use bulanevior::raw::BnvJudge;
+use bulanevior::raw::{BnvJudge, BNV_ACCEPTED, BNV_JUDGE_REFUSED, BNV_SAFE};
 use std::process::ExitCode;
 use std::time::Instant;
 
@@ -28,11 +28,11 @@ fn walk(compare: &mut Compare, input: &Input, judged: &BnvJudge, most: usize) ->
     let Ok(lemmas) = independent::lemma::read(&program, &input.lemmas) else { return Ok(()) };
     let mut accepted = Vec::new();
     for (k, lemma) in lemmas.iter().enumerate() {
-        if compare.ask(input, k)? == 0 {
+        if compare.ask(input, k)? == BNV_ACCEPTED {
             accepted.push(lemma);
         }
     }
-    let walked = states::walk(&program, states, &accepted, judged.verdict == 0).map_err(|fault| {
+    let walked = states::walk(&program, states, &accepted, judged.verdict == BNV_SAFE).map_err(|fault| {
         format!(
             "FALSE: {fault}\n  {judged:?}\n{}{}",
             hexadecimal("program", &input.program),
@@ -42,7 +42,7 @@ fn walk(compare: &mut Compare, input: &Input, judged: &BnvJudge, most: usize) ->
     let counts = &mut compare.counts;
     counts.note("all states walked");
     counts.add("accepted lemma, all states", walked.lemmas as u64);
-    if judged.verdict == 0 {
+    if judged.verdict == BNV_SAFE {
         counts.note("all states walked, safe");
         counts.add("reachable states, safe", walked.reachable as u64);
         if judged.nodes > 1 {
@@ -64,7 +64,7 @@ fn run(compare: &mut Compare, inputs: u64, seed: u64) -> Result<u64, Difference>
             let (input, most) =
                 if copy == 0 { (logic.clone(), STATES) } else { (generate::damaged(&dice, &logic), STATES_DAMAGED) };
             let judged = compare.all(&input, &dice).map_err(at)?;
-            if let Some(judged) = judged.filter(|j| j.verdict != 3) {
+            if let Some(judged) = judged.filter(|j| j.verdict != BNV_JUDGE_REFUSED) {
                 walk(compare, &input, &judged, most).map_err(at)?;
             }
             done += 1;

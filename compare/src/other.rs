@@ -1,19 +1,29 @@
 //! The independent code behind the same six calls. Fields that an answer does not use are 0.
 
-use bulanevior::raw::{BnvAsk, BnvCheck, BnvJudge, BnvPart, BnvStep, BnvSuccessor};
+use bulanevior::raw::*;
 use independent::{Asked, Judged, Stepped};
+
+/// Records of zeros, which are no answers.
+const NO_CHECK: BnvCheck =
+    BnvCheck { answer: 0, refusal: 0, value: 0, variables: 0, start_rows: 0, predicates: 0, actions: 0, forbidden: 0 };
+const NO_STEP: BnvStep = BnvStep { answer: 0, variable: 0, refusal: 0, value: 0 };
+const NO_ASK: BnvAsk = BnvAsk { answer: 0, refusal: 0, value: 0 };
+const NO_JUDGE: BnvJudge =
+    BnvJudge { verdict: 0, node: 0, place: 0, variable: 0, high: 0, nodes: 0, edges: 0, refusal: 0, value: 0 };
+const NO_SUCCESSOR: BnvSuccessor = BnvSuccessor { answer: 0, node: 0, refusal: 0, value: 0 };
 
 pub fn check(words: &[u32]) -> BnvCheck {
     match independent::check(words) {
         Ok(c) => BnvCheck {
+            answer: BNV_GOOD,
             variables: c.variables,
             start_rows: c.start_rows,
             predicates: c.predicates,
             actions: c.actions,
             forbidden: c.forbidden,
-            ..BnvCheck::default()
+            ..NO_CHECK
         },
-        Err(r) => BnvCheck { refusal: r.number, value: r.value as usize, ..BnvCheck::default() },
+        Err(r) => BnvCheck { answer: BNV_CHECK_REFUSED, refusal: r.number, value: r.value as usize, ..NO_CHECK },
     }
 }
 
@@ -24,47 +34,49 @@ pub fn action_part(words: &[u32], k: usize) -> BnvPart {
 
 pub fn step(words: &[u32], k: usize, state: &mut [i32]) -> BnvStep {
     match independent::step(words, k, state) {
-        Stepped::Moved => BnvStep::default(),
-        Stepped::NotEnabled => BnvStep { answer: 1, ..BnvStep::default() },
-        Stepped::RunsOff(variable) => BnvStep { answer: 2, variable, ..BnvStep::default() },
-        Stepped::Refused(r) => BnvStep { answer: 3, variable: 0, refusal: r.number, value: r.value as usize },
+        Stepped::Moved => BnvStep { answer: BNV_MOVED, ..NO_STEP },
+        Stepped::NotEnabled => BnvStep { answer: BNV_NOT_ENABLED, ..NO_STEP },
+        Stepped::RunsOff(variable) => BnvStep { answer: BNV_RUNS_OFF, variable, ..NO_STEP },
+        Stepped::Refused(r) => BnvStep { answer: BNV_STEP_REFUSED, refusal: r.number, value: r.value as usize, ..NO_STEP },
     }
 }
 
 pub fn ask(words: &[u32], lemmas: &[u32], k: usize) -> BnvAsk {
     match independent::ask(words, lemmas, k) {
-        Asked::Accepted => BnvAsk::default(),
-        Asked::NotAccepted => BnvAsk { answer: 1, ..BnvAsk::default() },
-        Asked::Refused(r) => BnvAsk { answer: 2, refusal: r.number, value: r.value as usize },
+        Asked::Accepted => BnvAsk { answer: BNV_ACCEPTED, ..NO_ASK },
+        Asked::NotAccepted => BnvAsk { answer: BNV_NOT_ACCEPTED, ..NO_ASK },
+        Asked::Refused(r) => BnvAsk { answer: BNV_ASK_REFUSED, refusal: r.number, value: r.value as usize },
     }
 }
 
 pub fn judge(words: &[u32], lemmas: &[u32], graph: &mut [u32], path: &mut [u32]) -> BnvJudge {
     match independent::judge(words, lemmas, graph, path) {
-        Judged::Safe { nodes, edges } => BnvJudge { nodes, edges, ..BnvJudge::default() },
+        Judged::Safe { nodes, edges } => BnvJudge { verdict: BNV_SAFE, nodes, edges, ..NO_JUDGE },
         Judged::MayForbid { node, bad, nodes, edges } => {
-            BnvJudge { verdict: 1, node, place: bad, nodes, edges, ..BnvJudge::default() }
+            BnvJudge { verdict: BNV_MAY_FORBID, node, place: bad, nodes, edges, ..NO_JUDGE }
         }
         Judged::MayRunOff { node, action, variable, high, nodes, edges } => BnvJudge {
-            verdict: 2,
+            verdict: BNV_MAY_RUN_OFF,
             node,
             place: action,
             variable,
             high: u32::from(high),
             nodes,
             edges,
-            ..BnvJudge::default()
+            ..NO_JUDGE
         },
         Judged::Refused(r) => {
-            BnvJudge { verdict: 3, refusal: r.number, value: r.value as usize, ..BnvJudge::default() }
+            BnvJudge { verdict: BNV_JUDGE_REFUSED, refusal: r.number, value: r.value as usize, ..NO_JUDGE }
         }
     }
 }
 
 pub fn successor(graph: &[u32], nodes: usize, actions: usize, node: usize, action: usize) -> BnvSuccessor {
     match independent::successor(graph, nodes, actions, node, action) {
-        Ok(0x0FFF_FFFF) => BnvSuccessor { answer: 1, ..BnvSuccessor::default() },
-        Ok(next) => BnvSuccessor { node: next as usize, ..BnvSuccessor::default() },
-        Err(r) => BnvSuccessor { answer: 2, refusal: r.number, value: r.value as usize, ..BnvSuccessor::default() },
+        Ok(0x0FFF_FFFF) => BnvSuccessor { answer: BNV_NO_NODE, ..NO_SUCCESSOR },
+        Ok(next) => BnvSuccessor { answer: BNV_NODE, node: next as usize, ..NO_SUCCESSOR },
+        Err(r) => {
+            BnvSuccessor { answer: BNV_SUCCESSOR_REFUSED, refusal: r.number, value: r.value as usize, ..NO_SUCCESSOR }
+        }
     }
 }

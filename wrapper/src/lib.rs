@@ -2,6 +2,9 @@
 //!
 //! A slice keeps what include/bulanevior.h asks of a list, so every function here is safe to call with anything.
 //! 96 KiB of stack beside the lent lists are enough.
+//!
+//! `Ok` comes from a number that is named in `raw`, and from no other. Any other number, 0 too, means that the library is
+//! of another version than this crate, or that its record was not filled: that is `Refusal::Mismatch`. Nothing panics.
 
 #[cfg(not(target_pointer_width = "64"))]
 compile_error!("64-bit numbers only");
@@ -9,19 +12,16 @@ compile_error!("64-bit numbers only");
 pub mod raw;
 
 /// The most nodes of a graph.
-pub const MOST_NODES: usize = 512;
+pub const MOST_NODES: usize = raw::BNV_MOST_NODES as usize;
 /// The most actions of a program.
-pub const MOST_ACTIONS: usize = 16;
+pub const MOST_ACTIONS: usize = raw::BNV_MOST_ACTIONS as usize;
 /// The words of a node's record before its EDGE words: SETS and ORIGIN.
-pub const HEADER_WORDS: usize = 2;
+pub const HEADER_WORDS: usize = raw::BNV_HEADER_WORDS as usize;
 
 /// The words that `judge` needs in a graph list, and the only ones that it ever writes there.
-pub const GRAPH_WORDS: usize = MOST_NODES * (HEADER_WORDS + MOST_ACTIONS);
+pub const GRAPH_WORDS: usize = raw::BNV_GRAPH_WORDS as usize;
 /// The words that `judge` needs in a path list, and the only ones that it ever writes there.
-pub const PATH_WORDS: usize = 512;
-
-const STEP: u32 = 13;
-const END: u32 = 15;
+pub const PATH_WORDS: usize = raw::BNV_PATH_WORDS as usize;
 
 /// A word's kind, its bits 31 to 28.
 pub fn kind(word: u32) -> u32 {
@@ -59,47 +59,52 @@ pub enum Refusal {
     State(usize),
     /// A lemma's sum leaves signed 64 bits: the lowest such lemma.
     Sum(usize),
+    /// No refusal of the library: its answer, or its refusal, has a number that is none, which is given here. The library is
+    /// of another version than this crate. There is no verdict; say it loudly.
+    Mismatch(u32),
 }
 
 impl Refusal {
     fn of(number: u32, value: usize) -> Refusal {
         match number {
-            1 => Refusal::Short(value),
-            2 => Refusal::Word(value),
-            3 => Refusal::Limit(value),
-            4 => Refusal::Value(value),
-            5 => Refusal::Lemma(value),
-            6 => Refusal::Lemmas(value),
-            7 => Refusal::Nodes,
-            8 => Refusal::Absent(value),
-            9 => Refusal::Length(value),
-            10 => Refusal::State(value),
-            11 => Refusal::Sum(value),
-            _ => unreachable!("a refusal has a number from 1 to 11"),
+            raw::BNV_REFUSED_SHORT => Refusal::Short(value),
+            raw::BNV_REFUSED_WORD => Refusal::Word(value),
+            raw::BNV_REFUSED_LIMIT => Refusal::Limit(value),
+            raw::BNV_REFUSED_VALUE => Refusal::Value(value),
+            raw::BNV_REFUSED_LEMMA => Refusal::Lemma(value),
+            raw::BNV_REFUSED_LEMMAS => Refusal::Lemmas(value),
+            raw::BNV_REFUSED_NODES => Refusal::Nodes,
+            raw::BNV_REFUSED_ABSENT => Refusal::Absent(value),
+            raw::BNV_REFUSED_LENGTH => Refusal::Length(value),
+            raw::BNV_REFUSED_STATE => Refusal::State(value),
+            raw::BNV_REFUSED_SUM => Refusal::Sum(value),
+            other => Refusal::Mismatch(other),
         }
     }
 
-    /// The number in the table of refusals.
+    /// The number in the table of refusals; of `Mismatch`, which is in no table, `u32::MAX`. Never 0.
     pub fn number(self) -> u32 {
         match self {
-            Refusal::Short(_) => 1,
-            Refusal::Word(_) => 2,
-            Refusal::Limit(_) => 3,
-            Refusal::Value(_) => 4,
-            Refusal::Lemma(_) => 5,
-            Refusal::Lemmas(_) => 6,
-            Refusal::Nodes => 7,
-            Refusal::Absent(_) => 8,
-            Refusal::Length(_) => 9,
-            Refusal::State(_) => 10,
-            Refusal::Sum(_) => 11,
+            Refusal::Short(_) => raw::BNV_REFUSED_SHORT,
+            Refusal::Word(_) => raw::BNV_REFUSED_WORD,
+            Refusal::Limit(_) => raw::BNV_REFUSED_LIMIT,
+            Refusal::Value(_) => raw::BNV_REFUSED_VALUE,
+            Refusal::Lemma(_) => raw::BNV_REFUSED_LEMMA,
+            Refusal::Lemmas(_) => raw::BNV_REFUSED_LEMMAS,
+            Refusal::Nodes => raw::BNV_REFUSED_NODES,
+            Refusal::Absent(_) => raw::BNV_REFUSED_ABSENT,
+            Refusal::Length(_) => raw::BNV_REFUSED_LENGTH,
+            Refusal::State(_) => raw::BNV_REFUSED_STATE,
+            Refusal::Sum(_) => raw::BNV_REFUSED_SUM,
+            Refusal::Mismatch(_) => u32::MAX,
         }
     }
 
-    /// The value that is returned with it.
+    /// The value that is returned with it; of `Mismatch` the number that is none.
     pub fn value(self) -> usize {
         match self {
             Refusal::Nodes => MOST_NODES,
+            Refusal::Mismatch(n) => n as usize,
             Refusal::Short(n)
             | Refusal::Word(n)
             | Refusal::Limit(n)
@@ -126,23 +131,30 @@ pub struct Counts {
 
 /// Is the list a program, and what are its counts?
 pub fn check(words: &[u32]) -> Result<Counts, Refusal> {
-    let c = raw::check(words);
-    if c.refusal != 0 {
-        return Err(Refusal::of(c.refusal, c.value));
+    checked(raw::check(words))
+}
+
+fn checked(c: raw::BnvCheck) -> Result<Counts, Refusal> {
+    match c.answer {
+        raw::BNV_GOOD => Ok(Counts {
+            variables: c.variables,
+            start_rows: c.start_rows,
+            predicates: c.predicates,
+            actions: c.actions,
+            forbidden: c.forbidden,
+        }),
+        raw::BNV_CHECK_REFUSED => Err(Refusal::of(c.refusal, c.value)),
+        other => Err(Refusal::Mismatch(other)),
     }
-    Ok(Counts {
-        variables: c.variables,
-        start_rows: c.start_rows,
-        predicates: c.predicates,
-        actions: c.actions,
-        forbidden: c.forbidden,
-    })
 }
 
 /// The words of action k, as a part of the list; empty where the list is no program or has no such action.
 pub fn action_part(words: &[u32], k: usize) -> &[u32] {
     let p = raw::action_part(words, k);
-    &words[p.start..p.start + p.length]
+    words
+        .get(p.start..)
+        .and_then(|rest| rest.get(..p.length))
+        .unwrap_or(&[])
 }
 
 /// What an action does to a state.
@@ -157,12 +169,16 @@ pub enum Step {
 
 /// Action k, tried on a state. Only `Moved` writes.
 pub fn step(words: &[u32], k: usize, state: &mut [i32]) -> Result<Step, Refusal> {
-    let s = raw::step(words, k, state);
+    stepped(raw::step(words, k, state))
+}
+
+fn stepped(s: raw::BnvStep) -> Result<Step, Refusal> {
     match s.answer {
-        0 => Ok(Step::Moved),
-        1 => Ok(Step::NotEnabled),
-        2 => Ok(Step::RunsOff(s.variable)),
-        _ => Err(Refusal::of(s.refusal, s.value)),
+        raw::BNV_NOT_ENABLED => Ok(Step::NotEnabled),
+        raw::BNV_RUNS_OFF => Ok(Step::RunsOff(s.variable)),
+        raw::BNV_STEP_REFUSED => Err(Refusal::of(s.refusal, s.value)),
+        raw::BNV_MOVED => Ok(Step::Moved),
+        other => Err(Refusal::Mismatch(other)),
     }
 }
 
@@ -176,11 +192,15 @@ pub enum Ask {
 
 /// Is lemma k of the list accepted?
 pub fn ask(words: &[u32], lemmas: &[u32], k: usize) -> Result<Ask, Refusal> {
-    let a = raw::ask(words, lemmas, k);
+    asked(raw::ask(words, lemmas, k))
+}
+
+fn asked(a: raw::BnvAsk) -> Result<Ask, Refusal> {
     match a.answer {
-        0 => Ok(Ask::Accepted),
-        1 => Ok(Ask::NotAccepted),
-        _ => Err(Refusal::of(a.refusal, a.value)),
+        raw::BNV_NOT_ACCEPTED => Ok(Ask::NotAccepted),
+        raw::BNV_ASK_REFUSED => Err(Refusal::of(a.refusal, a.value)),
+        raw::BNV_ACCEPTED => Ok(Ask::Accepted),
+        other => Err(Refusal::Mismatch(other)),
     }
 }
 
@@ -223,20 +243,24 @@ pub fn judge(
     graph: &mut [u32],
     path: &mut [u32],
 ) -> Result<Judgement, Refusal> {
-    let j = raw::judge(words, lemmas, graph, path);
+    judged(raw::judge(words, lemmas, graph, path))
+}
+
+fn judged(j: raw::BnvJudge) -> Result<Judgement, Refusal> {
     let verdict = match j.verdict {
-        0 => Verdict::Safe,
-        1 => Verdict::MayForbid {
+        raw::BNV_MAY_FORBID => Verdict::MayForbid {
             node: j.node,
             combination: j.place,
         },
-        2 => Verdict::MayRunOff {
+        raw::BNV_MAY_RUN_OFF => Verdict::MayRunOff {
             node: j.node,
             action: j.place,
             variable: j.variable,
             end: if j.high == 1 { End::High } else { End::Low },
         },
-        _ => return Err(Refusal::of(j.refusal, j.value)),
+        raw::BNV_JUDGE_REFUSED => return Err(Refusal::of(j.refusal, j.value)),
+        raw::BNV_SAFE => Verdict::Safe,
+        other => return Err(Refusal::Mismatch(other)),
     };
     Ok(Judgement {
         verdict,
@@ -249,7 +273,7 @@ pub fn judge(
 pub fn actions(path: &[u32]) -> impl Iterator<Item = u32> + '_ {
     path.iter()
         .copied()
-        .take_while(|&w| kind(w) == STEP)
+        .take_while(|&w| kind(w) == raw::BNV_STEP)
         .map(payload)
 }
 
@@ -257,7 +281,7 @@ pub fn actions(path: &[u32]) -> impl Iterator<Item = u32> + '_ {
 pub fn split(words: &[u32]) -> (&[u32], &[u32]) {
     let logic = words
         .iter()
-        .position(|&w| kind(w) == END)
+        .position(|&w| kind(w) == raw::BNV_END)
         .map_or(words.len(), |i| i + 1);
     words.split_at(logic)
 }
@@ -282,11 +306,104 @@ impl<'a> View<'a> {
 
     /// The successor for a node and an action, if it has one.
     pub fn successor(&self, node: usize, action: usize) -> Result<Option<usize>, Refusal> {
-        let s = raw::successor(self.graph, self.nodes, self.actions, node, action);
-        match s.answer {
-            0 => Ok(Some(s.node)),
-            1 => Ok(None),
-            _ => Err(Refusal::of(s.refusal, s.value)),
+        succeeded(raw::successor(
+            self.graph,
+            self.nodes,
+            self.actions,
+            node,
+            action,
+        ))
+    }
+}
+
+fn succeeded(s: raw::BnvSuccessor) -> Result<Option<usize>, Refusal> {
+    match s.answer {
+        raw::BNV_NO_NODE => Ok(None),
+        raw::BNV_SUCCESSOR_REFUSED => Err(Refusal::of(s.refusal, s.value)),
+        raw::BNV_NODE => Ok(Some(s.node)),
+        other => Err(Refusal::Mismatch(other)),
+    }
+}
+
+#[cfg(test)]
+mod tests {
+    use super::*;
+    use raw::*;
+
+    /// Every number up to 20 and the largest as an answer, with no other field filled: those named are `Ok` or a refusal
+    /// that is none, the others a mismatch.
+    fn tried<T>(named: &[u32], call: impl Fn(u32) -> Result<T, Refusal>) {
+        for n in (0..20).chain([u32::MAX]) {
+            let answer = call(n);
+            assert_eq!(answer.is_ok(), named.contains(&n), "{n}");
+            if let Err(why) = answer {
+                assert!(
+                    matches!(why, Refusal::Mismatch(m) if m == n || m == 0),
+                    "{n}: {why:?}"
+                );
+                assert_eq!(why.number(), u32::MAX);
+            }
+        }
+    }
+
+    #[test]
+    fn zeros_and_unknown_numbers_permit_nothing() {
+        tried(&[BNV_GOOD], |answer| {
+            checked(BnvCheck {
+                answer,
+                refusal: 0,
+                value: 0,
+                variables: 0,
+                start_rows: 0,
+                predicates: 0,
+                actions: 0,
+                forbidden: 0,
+            })
+        });
+        tried(&[BNV_NOT_ENABLED, BNV_RUNS_OFF, BNV_MOVED], |answer| {
+            stepped(BnvStep {
+                answer,
+                variable: 0,
+                refusal: 0,
+                value: 0,
+            })
+        });
+        tried(&[BNV_NOT_ACCEPTED, BNV_ACCEPTED], |answer| {
+            asked(BnvAsk {
+                answer,
+                refusal: 0,
+                value: 0,
+            })
+        });
+        tried(&[BNV_NO_NODE, BNV_NODE], |answer| {
+            succeeded(BnvSuccessor {
+                answer,
+                node: 0,
+                refusal: 0,
+                value: 0,
+            })
+        });
+    }
+
+    #[test]
+    fn only_its_own_number_is_safe() {
+        let of = |verdict| {
+            judged(BnvJudge {
+                verdict,
+                node: 0,
+                place: 0,
+                variable: 0,
+                high: 0,
+                nodes: 0,
+                edges: 0,
+                refusal: 0,
+                value: 0,
+            })
+        };
+        tried(&[BNV_MAY_FORBID, BNV_MAY_RUN_OFF, BNV_SAFE], of);
+        for n in (0..20).chain([u32::MAX]) {
+            let safe = of(n).is_ok_and(|j| j.verdict == Verdict::Safe);
+            assert_eq!(safe, n == BNV_SAFE, "{n}");
         }
     }
 }

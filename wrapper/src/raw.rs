@@ -1,9 +1,52 @@
 //! The functions of include/bulanevior.h over slices, with the same names, numbers and layouts of their answers. Fields
-//! that an answer does not use are 0.
+//! that an answer does not use are 0. No answer is 0, and a number that is not named here permits nothing. There is no
+//! `Default`: a record comes from a call.
+
+/// The kinds of words.
+pub const BNV_VAR: u32 = 1;
+pub const BNV_ROW: u32 = 2;
+pub const BNV_TERM: u32 = 3;
+pub const BNV_INIT: u32 = 4;
+pub const BNV_PRED: u32 = 5;
+pub const BNV_ACTION: u32 = 6;
+pub const BNV_SET: u32 = 7;
+pub const BNV_SETS: u32 = 8;
+pub const BNV_LEMMA: u32 = 9;
+pub const BNV_MULT: u32 = 10;
+pub const BNV_ORIGIN: u32 = 11;
+pub const BNV_EDGE: u32 = 12;
+pub const BNV_STEP: u32 = 13;
+pub const BNV_END: u32 = 15;
+
+/// The most nodes of a graph and actions of a program, and the words of a node's record before its EDGE words.
+pub const BNV_MOST_NODES: u32 = 512;
+pub const BNV_MOST_ACTIONS: u32 = 16;
+pub const BNV_HEADER_WORDS: u32 = 2;
+
+/// The words that `judge` needs in its lists.
+pub const BNV_GRAPH_WORDS: u32 = BNV_MOST_NODES * (BNV_HEADER_WORDS + BNV_MOST_ACTIONS);
+pub const BNV_PATH_WORDS: u32 = 512;
+
+/// The numbers of refusals.
+pub const BNV_REFUSED_SHORT: u32 = 1;
+pub const BNV_REFUSED_WORD: u32 = 2;
+pub const BNV_REFUSED_LIMIT: u32 = 3;
+pub const BNV_REFUSED_VALUE: u32 = 4;
+pub const BNV_REFUSED_LEMMA: u32 = 5;
+pub const BNV_REFUSED_LEMMAS: u32 = 6;
+pub const BNV_REFUSED_NODES: u32 = 7;
+pub const BNV_REFUSED_ABSENT: u32 = 8;
+pub const BNV_REFUSED_LENGTH: u32 = 9;
+pub const BNV_REFUSED_STATE: u32 = 10;
+pub const BNV_REFUSED_SUM: u32 = 11;
+
+pub const BNV_GOOD: u32 = 1;
+pub const BNV_CHECK_REFUSED: u32 = 2;
 
 #[repr(C)]
-#[derive(Clone, Copy, Debug, PartialEq, Eq, Default)]
+#[derive(Clone, Copy, Debug, PartialEq, Eq)]
 pub struct BnvCheck {
+    pub answer: u32,
     /// 0 if none.
     pub refusal: u32,
     pub value: usize,
@@ -15,35 +58,46 @@ pub struct BnvCheck {
 }
 
 #[repr(C)]
-#[derive(Clone, Copy, Debug, PartialEq, Eq, Default)]
+#[derive(Clone, Copy, Debug, PartialEq, Eq)]
 pub struct BnvPart {
     pub start: usize,
     pub length: usize,
 }
 
+pub const BNV_NOT_ENABLED: u32 = 1;
+pub const BNV_RUNS_OFF: u32 = 2;
+pub const BNV_STEP_REFUSED: u32 = 3;
+pub const BNV_MOVED: u32 = 4;
+
 #[repr(C)]
-#[derive(Clone, Copy, Debug, PartialEq, Eq, Default)]
+#[derive(Clone, Copy, Debug, PartialEq, Eq)]
 pub struct BnvStep {
-    /// 0 moved, 1 not enabled, 2 runs off, 3 refused.
     pub answer: u32,
     pub variable: usize,
     pub refusal: u32,
     pub value: usize,
 }
 
+pub const BNV_NOT_ACCEPTED: u32 = 1;
+pub const BNV_ASK_REFUSED: u32 = 2;
+pub const BNV_ACCEPTED: u32 = 3;
+
 #[repr(C)]
-#[derive(Clone, Copy, Debug, PartialEq, Eq, Default)]
+#[derive(Clone, Copy, Debug, PartialEq, Eq)]
 pub struct BnvAsk {
-    /// 0 accepted, 1 not accepted, 2 refused.
     pub answer: u32,
     pub refusal: u32,
     pub value: usize,
 }
 
+pub const BNV_MAY_FORBID: u32 = 1;
+pub const BNV_MAY_RUN_OFF: u32 = 2;
+pub const BNV_JUDGE_REFUSED: u32 = 3;
+pub const BNV_SAFE: u32 = 4;
+
 #[repr(C)]
-#[derive(Clone, Copy, Debug, PartialEq, Eq, Default)]
+#[derive(Clone, Copy, Debug, PartialEq, Eq)]
 pub struct BnvJudge {
-    /// 0 safe, 1 may forbid, 2 may run off, 3 refused.
     pub verdict: u32,
     pub node: usize,
     /// The combination, or the action.
@@ -57,10 +111,13 @@ pub struct BnvJudge {
     pub value: usize,
 }
 
+pub const BNV_NO_NODE: u32 = 1;
+pub const BNV_SUCCESSOR_REFUSED: u32 = 2;
+pub const BNV_NODE: u32 = 3;
+
 #[repr(C)]
-#[derive(Clone, Copy, Debug, PartialEq, Eq, Default)]
+#[derive(Clone, Copy, Debug, PartialEq, Eq)]
 pub struct BnvSuccessor {
-    /// 0 node, 1 none, 2 refused.
     pub answer: u32,
     pub node: usize,
     pub refusal: u32,

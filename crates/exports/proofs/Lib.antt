@@ -1,1 +1,1 @@
-pub mod Zero
+pub mod NumberLaws

@@ -1,12 +1,13 @@
 -- The calls' answers as records of numbers, for callers in C and Rust. A refusal is its number and value in the table of refusals.
--- A field that an answer does not use is 0.
+-- A field that an answer does not use is 0; no answer is 0.
 --
--- checkOf     — Check: refusal 0 and the five counts, or the refusal
+-- checkOf     — Check: 1 good with the five counts, 2 refused
 -- partOf      — Action part: where it begins in the list, and its length
--- stepOf      — Step: 0 moved, 1 not enabled, 2 runs off with the variable, 3 refused
--- askOf       — Ask: 0 accepted, 1 not accepted, 2 refused
--- judgeOf     — Judge: 0 safe, 1 may forbid with node and combination, 2 may run off with node, action, variable and end, 3 refused
--- successorOf — the view: 0 a node, 1 none, 2 refused
+-- stepOf      — Step: 1 not enabled, 2 runs off with the variable, 3 refused, 4 moved
+-- askOf       — Ask: 1 not accepted, 2 refused, 3 accepted
+-- judgeOf     — Judge: 1 may forbid with node and combination, 2 may run off with node, action, variable and end, 3 refused, 4 safe
+-- notJudged, showOf — a show's bytes: 1 too long, 2 odd bytes, 3 the words list is too short, 4 Judge's answer with the words of logic and lemmas
+-- successorOf — the view: 1 none, 2 refused, 3 a node
 use mathlib.Core.Bool.{cond}
 use Rattle.words.specs.Refusals.{number, value}
 use Rattle.programs.specs.declared.Checked.{Checked}
@@ -22,6 +23,8 @@ use Rattle.ask.specs.declared.Asked.the-variants.{Refused as NotAsked}
 use Rattle.judge.specs.declared.Judged.{Judged}
 use Rattle.judge.specs.declared.Judged.the-variants.{Safe, MayForbid, MayRunOff}
 use Rattle.judge.specs.declared.Judged.the-variants.{Refused as NotJudged}
+use Rattle.show.specs.declared.Shown.{Shown}
+use Rattle.show.specs.declared.Shown.the-variants.{TooLong, OddBytes, WordsShort, Answered}
 use Rattle.view.specs.declared.Viewed.{Viewed}
 use Rattle.view.specs.declared.Viewed.the-variants.{Node, None}
 use Rattle.view.specs.declared.Viewed.the-variants.{Refused as NotViewed}
@@ -30,11 +33,13 @@ use Rattle.exports.specs.declared.BnvPart.{BnvPart}
 use Rattle.exports.specs.declared.BnvStep.{BnvStep}
 use Rattle.exports.specs.declared.BnvAsk.{BnvAsk}
 use Rattle.exports.specs.declared.BnvJudge.{BnvJudge}
+use Rattle.exports.specs.declared.BnvShow.{BnvShow}
 use Rattle.exports.specs.declared.BnvSuccessor.{BnvSuccessor}
 
 abbrev pub checkOf : Checked → BnvCheck
 checkOf (Good n) =
     record {
+      answer = 1;
       refusal = 0;
       value = 0;
       variables = n .variables;
@@ -43,29 +48,39 @@ checkOf (Good n) =
       actions = n .actions;
       forbidden = n .forbidden;
     }
-checkOf (NotGood r) = record { refusal = number r; value = value r; variables = 0; «start_rows» = 0; predicates = 0; actions = 0; forbidden = 0 }
+checkOf (NotGood r) =
+    record { answer = 2; refusal = number r; value = value r; variables = 0; «start_rows» = 0; predicates = 0; actions = 0; forbidden = 0 }
 
 abbrev pub partOf : Part → BnvPart
 partOf p = record { start = p .start; length = p .length }
 
 abbrev pub stepOf : Stepped → BnvStep
-stepOf Moved = record { answer = 0; variable = 0; refusal = 0; value = 0 }
+stepOf Moved = record { answer = 4; variable = 0; refusal = 0; value = 0 }
 stepOf NotEnabled = record { answer = 1; variable = 0; refusal = 0; value = 0 }
 stepOf (RunsOff v) = record { answer = 2; variable = v; refusal = 0; value = 0 }
 stepOf (NotStepped r) = record { answer = 3; variable = 0; refusal = number r; value = value r }
 
 abbrev pub askOf : Asked → BnvAsk
-askOf Accepted = record { answer = 0; refusal = 0; value = 0 }
+askOf Accepted = record { answer = 3; refusal = 0; value = 0 }
 askOf NotAccepted = record { answer = 1; refusal = 0; value = 0 }
 askOf (NotAsked r) = record { answer = 2; refusal = number r; value = value r }
 
 abbrev pub judgeOf : Judged → BnvJudge
-judgeOf (Safe n e) = record { verdict = 0; node = 0; place = 0; variable = 0; high = 0; nodes = n; edges = e; refusal = 0; value = 0 }
+judgeOf (Safe n e) = record { verdict = 4; node = 0; place = 0; variable = 0; high = 0; nodes = n; edges = e; refusal = 0; value = 0 }
 judgeOf (MayForbid k b n e) = record { verdict = 1; node = k; place = b; variable = 0; high = 0; nodes = n; edges = e; refusal = 0; value = 0 }
 judgeOf (MayRunOff k j v h n e) = record { verdict = 2; node = k; place = j; variable = v; high = cond h 1 0; nodes = n; edges = e; refusal = 0; value = 0 }
 judgeOf (NotJudged r) = record { verdict = 3; node = 0; place = 0; variable = 0; high = 0; nodes = 0; edges = 0; refusal = number r; value = value r }
 
+abbrev pub notJudged : BnvJudge
+notJudged = record { verdict = 0; node = 0; place = 0; variable = 0; high = 0; nodes = 0; edges = 0; refusal = 0; value = 0 }
+
+abbrev pub showOf : Shown → BnvShow
+showOf TooLong = record { answer = 1; logic = 0; lemmas = 0; judged = notJudged }
+showOf OddBytes = record { answer = 2; logic = 0; lemmas = 0; judged = notJudged }
+showOf WordsShort = record { answer = 3; logic = 0; lemmas = 0; judged = notJudged }
+showOf (Answered l m a) = record { answer = 4; logic = l; lemmas = m; judged = judgeOf a }
+
 abbrev pub successorOf : Viewed → BnvSuccessor
-successorOf (Node n) = record { answer = 0; node = n; refusal = 0; value = 0 }
+successorOf (Node n) = record { answer = 3; node = n; refusal = 0; value = 0 }
 successorOf None = record { answer = 1; node = 0; refusal = 0; value = 0 }
 successorOf (NotViewed r) = record { answer = 2; node = 0; refusal = number r; value = value r }

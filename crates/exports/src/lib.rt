@@ -10,16 +10,25 @@ ghost use Rattle.judge.specs.Calls.{judge};
 ghost use Rattle.judge.specs.Worth.{SafeOf};
 ghost use Rattle.judge.specs.declared.Judged.the-variants.{Safe, Refused};
 ghost use Rattle.view.specs.Views.{viewed};
-ghost use Rattle.exports.specs.Numbers.{checkOf, partOf, stepOf, askOf, judgeOf, successorOf};
+ghost use Rattle.show.specs.Show.{show, wordsLeft, SafeShow};
+ghost use Rattle.exports.specs.Numbers.{checkOf, partOf, stepOf, askOf, judgeOf, notJudged, showOf, successorOf};
 use ask::Asked;
 use judge::Judged;
 use programs::Checked;
 use runs::Stepped;
+use show::Shown;
 use view::Viewed;
 use words::Refusal;
 
+// Answers are numbered from 1: a record of zeros is no answer, and permits nothing.
+pub const BNV_GOOD: u32 = 1;
+
+pub const BNV_CHECK_REFUSED: u32 = 2;
+
 #[repr(C)]
 pub struct BnvCheck {
+    // BNV_GOOD or BNV_CHECK_REFUSED.
+    pub answer: u32,
     // 0 if there is none.
     pub refusal: u32,
     pub value: usize,
@@ -35,6 +44,7 @@ fn check_of(c: Checked) -> BnvCheck
 {
     match c {
         Checked::Good(n) => BnvCheck {
+            answer: BNV_GOOD,
             refusal: 0,
             value: 0,
             variables: n.variables,
@@ -44,6 +54,7 @@ fn check_of(c: Checked) -> BnvCheck
             forbidden: n.forbidden,
         },
         Checked::Refused(why) => BnvCheck {
+            answer: BNV_CHECK_REFUSED,
             refusal: words::number_of(why),
             value: words::value_of(why),
             variables: 0,
@@ -58,7 +69,8 @@ fn check_of(c: Checked) -> BnvCheck
 // Check.
 #[no_mangle]
 pub extern "C" fn bnv_check(words: &[u32]) -> BnvCheck
-    ensures { λ r. ⌜ r ≡ checkOf (check (now (words .entry))) ⌝ }
+    ensures answer { λ r. ⌜ r ≡ checkOf (check (now (words .entry))) ⌝ }
+    ensures nonzero { λ r. ⌜ 1 ≤ r .answer ⌝ }
 {
     check_of(programs::check(words))
 }
@@ -83,9 +95,16 @@ pub extern "C" fn bnv_action_part(words: &[u32], k: usize) -> BnvPart
     }
 }
 
+pub const BNV_NOT_ENABLED: u32 = 1;
+
+pub const BNV_RUNS_OFF: u32 = 2;
+
+pub const BNV_STEP_REFUSED: u32 = 3;
+
+pub const BNV_MOVED: u32 = 4;
+
 #[repr(C)]
 pub struct BnvStep {
-    // 0 moved, 1 not enabled, 2 runs off, 3 refused.
     pub answer: u32,
     pub variable: usize,
     pub refusal: u32,
@@ -97,25 +116,25 @@ fn step_of(s: Stepped) -> BnvStep
 {
     match s {
         Stepped::Moved => BnvStep {
-            answer: 0,
+            answer: BNV_MOVED,
             variable: 0,
             refusal: 0,
             value: 0,
         },
         Stepped::NotEnabled => BnvStep {
-            answer: 1,
+            answer: BNV_NOT_ENABLED,
             variable: 0,
             refusal: 0,
             value: 0,
         },
         Stepped::RunsOff(v) => BnvStep {
-            answer: 2,
+            answer: BNV_RUNS_OFF,
             variable: v,
             refusal: 0,
             value: 0,
         },
         Stepped::Refused(why) => BnvStep {
-            answer: 3,
+            answer: BNV_STEP_REFUSED,
             variable: 0,
             refusal: words::number_of(why),
             value: words::value_of(why),
@@ -128,13 +147,19 @@ fn step_of(s: Stepped) -> BnvStep
 pub extern "C" fn bnv_step(words: &[u32], k: usize, state: &mut [i32]) -> BnvStep
     ensures answer { λ r. ⌜ r ≡ stepOf (stepCall (now (words .entry)) k (now (state .entry)) .answer) ⌝ }
     ensures state { λ _. ⌜ now (state .exit) ≡ stepCall (now (words .entry)) k (now (state .entry)) .state ⌝ }
+    ensures nonzero { λ r. ⌜ 1 ≤ r .answer ⌝ }
 {
     step_of(runs::step(words, k, &mut *state))
 }
 
+pub const BNV_NOT_ACCEPTED: u32 = 1;
+
+pub const BNV_ASK_REFUSED: u32 = 2;
+
+pub const BNV_ACCEPTED: u32 = 3;
+
 #[repr(C)]
 pub struct BnvAsk {
-    // 0 accepted, 1 not accepted, 2 refused.
     pub answer: u32,
     pub refusal: u32,
     pub value: usize,
@@ -145,17 +170,17 @@ fn ask_of(a: Asked) -> BnvAsk
 {
     match a {
         Asked::Accepted => BnvAsk {
-            answer: 0,
+            answer: BNV_ACCEPTED,
             refusal: 0,
             value: 0,
         },
         Asked::NotAccepted => BnvAsk {
-            answer: 1,
+            answer: BNV_NOT_ACCEPTED,
             refusal: 0,
             value: 0,
         },
         Asked::Refused(why) => BnvAsk {
-            answer: 2,
+            answer: BNV_ASK_REFUSED,
             refusal: words::number_of(why),
             value: words::value_of(why),
         },
@@ -166,14 +191,22 @@ fn ask_of(a: Asked) -> BnvAsk
 #[no_mangle]
 pub extern "C" fn bnv_ask(words: &[u32], lemmas: &[u32], k: usize) -> BnvAsk
     ensures answer { λ r. ⌜ r ≡ askOf (ask (now (words .entry)) (now (lemmas .entry)) k) ⌝ }
-    ensures truth { λ r. ⌜ (r .answer ≡ 0 → TrueIn (read (now (words .entry))) (now (lemmas .entry)) k) ⌝ }
+    ensures nonzero { λ r. ⌜ 1 ≤ r .answer ⌝ }
+    ensures truth { λ r. ⌜ (r .answer ≡ 3 → TrueIn (read (now (words .entry))) (now (lemmas .entry)) k) ⌝ }
 {
     ask_of(ask::ask(words, lemmas, k))
 }
 
+pub const BNV_MAY_FORBID: u32 = 1;
+
+pub const BNV_MAY_RUN_OFF: u32 = 2;
+
+pub const BNV_JUDGE_REFUSED: u32 = 3;
+
+pub const BNV_SAFE: u32 = 4;
+
 #[repr(C)]
 pub struct BnvJudge {
-    // 0 safe, 1 may forbid, 2 may run off, 3 refused.
     pub verdict: u32,
     pub node: usize,
     // The forbidden combination, or the action that may run off.
@@ -197,7 +230,7 @@ fn safe(nodes: usize, edges: usize) -> BnvJudge
     ensures { λ r. ⌜ r ≡ judgeOf (Safe nodes edges) ⌝ }
 {
     BnvJudge {
-        verdict: 0,
+        verdict: BNV_SAFE,
         node: 0,
         place: 0,
         variable: 0,
@@ -213,7 +246,7 @@ fn no_verdict(why: Refusal) -> BnvJudge
     ensures { λ r. ⌜ r ≡ judgeOf (Refused why) ⌝ }
 {
     BnvJudge {
-        verdict: 3,
+        verdict: BNV_JUDGE_REFUSED,
         node: 0,
         place: 0,
         variable: 0,
@@ -231,7 +264,7 @@ fn judge_of(j: Judged) -> BnvJudge
     match j {
         Judged::Safe(nodes, edges) => safe(nodes, edges),
         Judged::MayForbid(node, bad, nodes, edges) => BnvJudge {
-            verdict: 1,
+            verdict: BNV_MAY_FORBID,
             node,
             place: bad,
             variable: 0,
@@ -242,7 +275,7 @@ fn judge_of(j: Judged) -> BnvJudge
             value: 0,
         },
         Judged::MayRunOff(node, action, variable, high, nodes, edges) => BnvJudge {
-            verdict: 2,
+            verdict: BNV_MAY_RUN_OFF,
             node,
             place: action,
             variable,
@@ -267,14 +300,105 @@ pub extern "C" fn bnv_judge(
     ensures answer { λ r. ⌜ r ≡ judgeOf (judge (now (words .entry)) (now (lemmas .entry)) (now (graph .entry)) (now (path .entry)) .answer) ⌝ }
     ensures graph { λ _. ⌜ now (graph .exit) ≡ judge (now (words .entry)) (now (lemmas .entry)) (now (graph .entry)) (now (path .entry)) .graph ⌝ }
     ensures path { λ _. ⌜ now (path .exit) ≡ judge (now (words .entry)) (now (lemmas .entry)) (now (graph .entry)) (now (path .entry)) .path ⌝ }
-    ensures demand3 { λ r. ⌜ (r .verdict ≡ 0 → SafeOf (read (now (words .entry)))) ⌝ }
+    ensures nonzero { λ r. ⌜ 1 ≤ r .verdict ⌝ }
+    ensures demand3 { λ r. ⌜ (r .verdict ≡ 4 → SafeOf (read (now (words .entry)))) ⌝ }
 {
     judge_of(judge::judge(words, lemmas, &mut *graph, &mut *path))
 }
 
+pub const BNV_TOO_LONG: u32 = 1;
+
+pub const BNV_ODD_BYTES: u32 = 2;
+
+pub const BNV_WORDS_SHORT: u32 = 3;
+
+pub const BNV_JUDGED: u32 = 4;
+
+#[repr(C)]
+pub struct BnvShow {
+    pub answer: u32,
+    // How many words of the words list are the logic, from its front, and how many behind it the lemmas.
+    pub logic: usize,
+    pub lemmas: usize,
+    // Judge's answer; all 0 where it was not asked.
+    pub judged: BnvJudge,
+}
+
+fn not_judged() -> BnvJudge
+    ensures { λ r. ⌜ r ≡ notJudged ⌝ }
+{
+    BnvJudge {
+        verdict: 0,
+        node: 0,
+        place: 0,
+        variable: 0,
+        high: 0,
+        nodes: 0,
+        edges: 0,
+        refusal: 0,
+        value: 0,
+    }
+}
+
+fn show_of(s: Shown) -> BnvShow
+    ensures { λ r. ⌜ r ≡ showOf s ⌝ }
+{
+    match s {
+        Shown::TooLong => BnvShow {
+            answer: BNV_TOO_LONG,
+            logic: 0,
+            lemmas: 0,
+            judged: not_judged(),
+        },
+        Shown::OddBytes => BnvShow {
+            answer: BNV_ODD_BYTES,
+            logic: 0,
+            lemmas: 0,
+            judged: not_judged(),
+        },
+        Shown::WordsShort => BnvShow {
+            answer: BNV_WORDS_SHORT,
+            logic: 0,
+            lemmas: 0,
+            judged: not_judged(),
+        },
+        Shown::Answered(logic, lemmas, answer) => BnvShow {
+            answer: BNV_JUDGED,
+            logic,
+            lemmas,
+            judged: judge_of(answer),
+        },
+    }
+}
+
+// Judge, of a show file's bytes. Only BNV_JUDGED writes the words list.
+#[no_mangle]
+pub extern "C" fn bnv_show(
+    bytes: &[u8],
+    words: &mut [u32],
+    graph: &mut [u32],
+    path: &mut [u32],
+) -> BnvShow
+    ensures answer { λ r. ⌜ r ≡ showOf (show (now (bytes .entry)) (now (words .entry)) (now (graph .entry)) (now (path .entry)) .answer) ⌝ }
+    ensures words { λ _. ⌜ now (words .exit)
+        ≡ wordsLeft (show (now (bytes .entry)) (now (words .entry)) (now (graph .entry)) (now (path .entry)) .answer)
+        (now (bytes .entry)) (now (words .entry)) ⌝ }
+    ensures graph { λ _. ⌜ now (graph .exit) ≡ show (now (bytes .entry)) (now (words .entry)) (now (graph .entry)) (now (path .entry)) .graph ⌝ }
+    ensures path { λ _. ⌜ now (path .exit) ≡ show (now (bytes .entry)) (now (words .entry)) (now (graph .entry)) (now (path .entry)) .path ⌝ }
+    ensures safe { λ r. ⌜ (r .judged .verdict ≡ 4 → SafeShow (now (bytes .entry))) ⌝ }
+    ensures nonzero { λ r. ⌜ 1 ≤ r .answer ⌝ }
+{
+    show_of(show::show(bytes, &mut *words, &mut *graph, &mut *path))
+}
+
+pub const BNV_NO_NODE: u32 = 1;
+
+pub const BNV_SUCCESSOR_REFUSED: u32 = 2;
+
+pub const BNV_NODE: u32 = 3;
+
 #[repr(C)]
 pub struct BnvSuccessor {
-    // 0 a node, 1 none, 2 refused.
     pub answer: u32,
     pub node: usize,
     pub refusal: u32,
@@ -286,19 +410,19 @@ fn successor_of(v: Viewed) -> BnvSuccessor
 {
     match v {
         Viewed::Node(n) => BnvSuccessor {
-            answer: 0,
+            answer: BNV_NODE,
             node: n,
             refusal: 0,
             value: 0,
         },
         Viewed::None => BnvSuccessor {
-            answer: 1,
+            answer: BNV_NO_NODE,
             node: 0,
             refusal: 0,
             value: 0,
         },
         Viewed::Refused(why) => BnvSuccessor {
-            answer: 2,
+            answer: BNV_SUCCESSOR_REFUSED,
             node: 0,
             refusal: words::number_of(why),
             value: words::value_of(why),
@@ -315,7 +439,8 @@ pub extern "C" fn bnv_successor(
     node: usize,
     action: usize,
 ) -> BnvSuccessor
-    ensures { λ r. ⌜ r ≡ successorOf (viewed (now (graph .entry)) nodes actions node action) ⌝ }
+    ensures answer { λ r. ⌜ r ≡ successorOf (viewed (now (graph .entry)) nodes actions node action) ⌝ }
+    ensures nonzero { λ r. ⌜ 1 ≤ r .answer ⌝ }
 {
     successor_of(view::successor_of(graph, nodes, actions, node, action))
 }

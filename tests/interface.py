@@ -1,0 +1,211 @@
+#!/usr/bin/env python3
+"""The embedding interface says the same in its three texts: crates/exports/src/lib.rt, include/bulanevior.h and wrapper/src/raw.rs.
+
+Compared are every record's fields and every function's parameters (names, types, order) and result, and every constant BNV_..; a Rattle slice is
+a pointer and a length. The header and raw.rs have the same constants, lib.rt some of them. The version stands in the header, in wrapper/Cargo.toml
+and at the head of CHANGELOG.md. Prints each difference.
+
+Then the comparison itself is tried: each two neighbouring fields and each two neighbouring parameters exchanged, each result and each constant
+changed, in each text in turn, has to be a difference.
+"""
+import re
+import sys
+
+from functools import lru_cache
+from pathlib import Path
+
+ROOT = Path(__file__).resolve().parent.parent
+RATTLE, HEADER, RUST = TEXTS = "crates/exports/src/lib.rt", "include/bulanevior.h", "wrapper/src/raw.rs"
+CARGO, CHANGES = "wrapper/Cargo.toml", "CHANGELOG.md"
+C_TYPES = {"uint8_t": "u8", "uint32_t": "u32", "int32_t": "i32", "size_t": "usize"}
+
+
+class Unread(Exception):
+    pass
+
+
+class Item:
+    """A field or a parameter: its place in the text, and what it is there, name and type; a slice is two."""
+
+    def __init__(self, name, begin, text, read):
+        lead = len(text) - len(text.lstrip())
+        self.begin, self.end = begin + lead, begin + len(text.rstrip())
+        self.parts = read(name, " ".join(text.split()))
+
+
+def read_rust(name, text):
+    """`pub field: type`, `parameter: type`."""
+    found = re.fullmatch(r"(?:pub )?(\w+): (.+)", text)
+    if not found:
+        raise Unread(f"{name}: {text}")
+    item, kind = found.groups()
+    part = re.fullmatch(r"&(mut )?\[(\w+)\]", kind)
+    if part:
+        return [(item, f"*{'mut' if part[1] else 'const'} {part[2]}"), (f"{item}_length", "usize")]
+    return [(item, kind)]
+
+
+def read_c(name, text):
+    """`type name`, `type *name`, `const type *name`."""
+    found = re.fullmatch(r"(const )?(\w+) (\*?)(\w+)", text)
+    if not found:
+        raise Unread(f"{name}: {text}")
+    const, kind, star, item = found.groups()
+    kind = C_TYPES.get(kind, kind)
+    return [(item, f"*{'const' if const else 'mut'} {kind}" if star else kind)]
+
+
+@lru_cache(maxsize=8)
+class Text:
+    """What one text says. Comments are blanked, so that places stay as they are."""
+
+    def __init__(self, name, source):
+        self.name, self.source = name, source
+        c = name == HEADER
+        comment = r"/\*.*?\*/" if c else r"//[^\n]*"
+        self.plain = re.sub(comment, lambda m: re.sub(r"\S", " ", m[0]), source, flags=re.S)
+        self.read, self.stop = (read_c, ";") if c else (read_rust, ",")
+        self.records, self.functions, self.results, self.constants = {}, {}, {}, {}
+        if c:
+            self.take_records(r"typedef struct \{(?P<items>[^}]*)\} (?P<name>\w+);", r"\btypedef\b")
+            self.take_functions(r"\b(?P<result>\w+) (?P<name>bnv_\w+)\((?P<items>[^)]*)\);", r"\bbnv_\w+")
+            self.take_constants(r"^#define (BNV_\w+)[ \t]+(.*\S)", r"#define BNV_\w+\s")
+        else:
+            self.take_records(r"#\[repr\(C\)\]\s*(?:#\[[^\]]*\]\s*)?pub struct (?P<name>\w+) \{(?P<items>[^}]*)\}", r"repr\(C\)")
+            before = 'extern "C" ' if name == RATTLE else r"^    "
+            self.take_functions(before + r"fn (?P<name>bnv_\w+)\((?P<items>[^)]*)\)\s*->\s*(?P<result>\w+)", r"fn bnv_\w+")
+            self.take_constants(r"\bpub const (BNV_\w+): \w+ = ([^;]+);", r"\bconst BNV_")
+
+    def counted(self, what, found, anchor):
+        """Nothing was passed over, and nothing is there twice."""
+        there = len(re.findall(anchor, self.plain))
+        if there != len(found):
+            raise Unread(f"{there} {what} are there, {len(found)} were read")
+
+    def items(self, name, found, stop):
+        begin = found.start("items")
+        for text in found["items"].split(stop):
+            if text.strip():
+                yield Item(name, begin, text, self.read)
+            begin += len(text) + 1
+
+    def take_records(self, pattern, anchor):
+        for found in re.finditer(pattern, self.plain):
+            self.records[found["name"]] = list(self.items(found["name"], found, self.stop))
+        self.counted("records", self.records, anchor)
+
+    def take_functions(self, pattern, anchor):
+        for found in re.finditer(pattern, self.plain, re.M):
+            self.functions[found["name"]] = list(self.items(found["name"], found, ","))
+            self.results[found["name"]] = found["result"], found.span("result")
+        self.counted("functions", self.functions, anchor)
+
+    def take_constants(self, pattern, anchor):
+        for found in re.finditer(pattern, self.plain, re.M):
+            self.constants[found[1]] = self.value(found[1], found[2]), found.span(2)
+        self.counted("constants", self.constants, anchor)
+
+    def value(self, name, text):
+        """A number, or arithmetic on numbers and earlier constants; a version as it is written."""
+        if text.startswith('"'):
+            return text
+        text = re.sub(r"BNV_\w+", lambda m: str(self.constants[m[0]][0]) if m[0] in self.constants else m[0], text)
+        text = re.sub(r"\b(\d[\d_]*)u?\b", lambda m: m[1].replace("_", ""), text)
+        if not re.fullmatch(r"[\d+*() -]+", text):
+            raise Unread(f"{name}: {text}")
+        return eval(text)
+
+    def changes(self):
+        """The text with two neighbours exchanged, or one thing changed."""
+        s = self.source
+        for lists in self.records, self.functions:
+            for items in lists.values():
+                for a, b in zip(items, items[1:]):
+                    yield s[:a.begin] + s[b.begin:b.end] + s[a.end:b.begin] + s[a.begin:a.end] + s[b.end:]
+        for _, (begin, end) in self.results.values():
+            yield s[:begin] + "Other" + s[end:]
+        for value, (begin, end) in self.constants.values():
+            yield s[:begin] + ('"other"' if isinstance(value, str) else f"({s[begin:end]} + 1)") + s[end:]
+
+
+def lists_differ(what, parts, texts, lists):
+    """Names that a text lacks, and the first place where lists of a name differ."""
+    first = texts[0]
+    for name in dict.fromkeys(n for t in texts for n in lists(t)):
+        lacking = [t.name for t in texts if name not in lists(t)]
+        if lacking:
+            yield f"{what} {name}: not in {', '.join(lacking)}"
+            continue
+        flat = {t.name: [p for item in lists(t)[name] for p in item.parts] for t in texts}
+        for other in texts[1:]:
+            a, b = flat[first.name], flat[other.name]
+            for place in range(max(len(a), len(b))):
+                x, y = (": ".join(l[place]) if place < len(l) else "nothing" for l in (a, b))
+                if x != y:
+                    yield f"{what} {name}: {parts} {place} is `{x}` in {first.name} and `{y}` in {other.name}"
+                    break
+
+
+def constants_differ(texts):
+    rattle, header, rust = (t.constants for t in texts)
+    for name in dict.fromkeys([*rattle, *header, *rust]):
+        if name == "BNV_VERSION":
+            continue
+        for text in texts[1:]:
+            if name not in text.constants:
+                yield f"constant {name}: not in {text.name}"
+        said = {t.name: t.constants[name][0] for t in texts if name in t.constants}
+        if len(set(said.values())) > 1:
+            yield f"constant {name}: " + ", ".join(f"{value} in {text}" for text, value in said.items())
+
+
+def versions_differ(sources, header):
+    said = {
+        HEADER: header.constants.get("BNV_VERSION", (None,))[0],
+        CARGO: re.search(r'^version = ("[^"]*")', sources[CARGO], re.M)[1],
+        CHANGES: '"' + re.search(r"^## (\S+)", sources[CHANGES], re.M)[1] + '"',
+    }
+    if len(set(said.values())) > 1:
+        yield "version: " + ", ".join(f"{value} in {text}" for text, value in said.items())
+
+
+def differences(sources):
+    texts = []
+    for name in TEXTS:
+        try:
+            texts.append(Text(name, sources[name]))
+        except Unread as fault:
+            yield f"{name}: {fault}"
+    if len(texts) < len(TEXTS):
+        return
+    yield from lists_differ("record", "field", texts, lambda t: t.records)
+    yield from lists_differ("function", "parameter", texts, lambda t: t.functions)
+    for name in set.intersection(*(set(t.results) for t in texts)):
+        said = {t.name: t.results[name][0] for t in texts}
+        if len(set(said.values())) > 1:
+            yield f"function {name}: its result is " + ", ".join(f"{value} in {text}" for text, value in said.items())
+    yield from constants_differ(texts)
+    yield from versions_differ(sources, texts[1])
+
+
+def main():
+    sources = {name: (ROOT / name).read_text() for name in (*TEXTS, CARGO, CHANGES)}
+    bad = list(differences(sources))
+    if not bad:
+        header, noticed = Text(HEADER, sources[HEADER]), 0
+        for name in TEXTS:
+            for changed in Text(name, sources[name]).changes():
+                if any(True for _ in differences({**sources, name: changed})):
+                    noticed += 1
+                else:
+                    line = next(i for i, (a, b) in enumerate(zip(changed.split("\n"), sources[name].split("\n")), 1) if a != b)
+                    bad.append(f"{name}:{line}: a change here is not noticed")
+        many = [len(header.records), sum(map(len, header.records.values())), len(header.functions), sum(map(len, header.functions.values()))]
+        print("interface: {} records with {} fields, {} functions with {} parameters, {} constants; {} exchanges and changes noticed".format(
+            *many, len(header.constants), noticed))
+    print("\n".join(bad), end="\n" if bad else "")
+    return 1 if bad else 0
+
+
+if __name__ == "__main__":
+    sys.exit(main())
