@@ -4,8 +4,7 @@
 --   programs::action_part(words, k)    r ≡ actionPart words k, a part of words from word partPlace .start on  crates/programs/src/lib.rt
 --   runs::step(words, k, state)        r and the state at exit are those of stepCall words k state            crates/runs/src/lib.rt
 --   ask::ask(words, lemmas, k)         r ≡ ask words lemmas k; r ≡ Accepted → TrueIn (read words) lemmas k    crates/ask/src/lib.rt
---   judge::judge(words, lemmas, g, p)  r, g and p at exit are those of judge words lemmas g p; Demand2Of words lemmas r and both lists at entry
---                                      and exit; r ≡ Safe n e → SafeOf (read words)                           crates/judge/src/lib.rt
+--   judge::judge(words, lemmas, g, p)  r, g and p at exit are those of judge words lemmas g p, and Demand2Of; r ≡ Safe n e → SafeOf (read words)  crates/judge/src/lib.rt
 --   view::successor_of(g, n, a, k, j)  r ≡ viewed g n a k j, and so say View::new and View::successor         crates/view/src/lib.rt
 --   report::report(input, lines)       linesOf input is written; if what was written begins with SAFE, SafeShow input  crates/report/src/lib.rt
 --   exports::bnv_check(..), ..         r is the record of numbers of the call's answer, by checkOf, ..        crates/exports/src/lib.rt
@@ -36,10 +35,11 @@ use Rattle.judge.specs.declared.Judged.the-variants.{Safe as IsSafe}
 use Rattle.judge.specs.Calls.{judge}
 use Rattle.judge.specs.Worth.{Drawn, Demand2Of, SafeOf}
 use Rattle.view.specs.Views.{viewed, edgeViewed}
+use Rattle.little.specs.LittleEndian.{bytesOf}
 use Rattle.lines.specs.Text.{text}
 use Rattle.show.specs.Show.{SafeShow}
 use Rattle.report.specs.Report.{linesOf, Begins}
-use Rattle.worked.specs.Shows.{fade, fadeLemmas, house, incident, fadeProgram, houseProgram, incidentProgram, bytesOf}
+use Rattle.worked.specs.Shows.{fade, fadeLemmas, house, incident, fadeProgram, houseProgram, incidentProgram}
 
 -- the part of an ACTION word, up to, but without, the next ACTION, SETS or END, is the words of that action and nothing else
 pub part-of-action : (ws : List ℕ) (p : Program) {us : List ℕ} {i : ℕ} → read ws ≡ got p us i

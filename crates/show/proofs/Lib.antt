@@ -1,3 +1,4 @@
 pub mod Logic
-pub mod Cases
+pub mod Bytes
 pub mod Safe
+pub mod Cases

@@ -9,10 +9,10 @@ use Rattle.verdict.specs.Verdicts.{pathWords}
 use Rattle.judge.specs.Calls.{Judgement, judge}
 use Rattle.judge.specs.declared.Judged.the-variants.{Safe}
 use Rattle.lines.specs.Text.{text, spelled, decimal, line}
-use Rattle.little.specs.LittleEndian.{wordsOf}
+use Rattle.little.specs.LittleEndian.{wordsOf, bytesOf}
 use Rattle.show.specs.Show.{logicLength, wordsIn, logicIn, lemmasIn, shown}
 use Rattle.report.specs.Report.{zeros, answerLines, shownLines, linesOf}
-use Rattle.worked.specs.Shows.{fade, fadeLemmas, bytesOf}
+use Rattle.worked.specs.Shows.{fade, fadeLemmas}
 use Rattle.worked.proofs.Table.{fadeRecords, left, worked}
 
 fade-words : wordsIn (bytesOf (fade ++ fadeLemmas)) ≡ fade ++ fadeLemmas

@@ -4,9 +4,8 @@
 -- fadeFirst, fadeOthers, fadeLemmas — Fade's lemmas: the first, those behind it, all
 -- row2, level — a row of the first two variables; the range 0..1000
 -- fadeProgram, houseProgram, incidentProgram — the logic as a value
--- bytesOf — the bytes of words, the lowest first
 use mathlib.Core.List.{List, [], _∷_, _++_}
-use Prim.Native.Nat.{ℕ, _/_, _%_}
+use Prim.Native.Nat.{ℕ}
 use lib.IntN.{ℤ, pos, negsuc}
 use Rattle.rows.specs.declared.Row.{Row}
 use Rattle.rows.specs.declared.Range.{Range}
@@ -102,8 +101,3 @@ incidentProgram =
       actions = record { guards = []; sets = record { variable = 0; row = row2 (pos 1) (pos 0) (negsuc 9) } ∷ [] } ∷ [];
       forbidden = [];
     }
-
--- ---- as bytes
-unfoldable pub bytesOf : List ℕ → List ℕ
-bytesOf [] = []
-bytesOf (w ∷ ws) = w % 256 ∷ w / 256 % 256 ∷ w / 65536 % 256 ∷ w / 16777216 % 256 ∷ bytesOf ws
