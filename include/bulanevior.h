@@ -3,15 +3,15 @@
  *
  * A show's logic is a list of 32-bit words: variables with ranges, start rows, predicates, actions and forbidden combinations.
  * The calls read such a list, step its actions, weigh lemmas about it, and judge whether any list of actions can bring the show
- * into a forbidden state or run a variable off its range.
+ * into a forbidden state or run a variable off its range. A desk that has the bytes of a show file calls bnv_show and needs no other.
  *
  * Link target/staticlib/libexports.a, which `rt staticlib exports` writes, on x86-64 Linux. It needs memcpy and memset and nothing else.
  *
  * What the caller owes, at every call:
  *  - A list is a pointer and a length: two arguments. The length counts elements. A list of length zero is empty whatever its
  *    pointer, a null pointer too: nothing is read or written through it.
- *  - A pointer with a length above zero points to that many elements, aligned to 4 bytes, that may be read and, where the list is
- *    not const, written. Until the call returns nobody else writes them, nor reads those of a list that is not const.
+ *  - A pointer with a length above zero points to that many elements, aligned to 4 bytes (bytes to any), that may be read and, where
+ *    the list is not const, written. Until the call returns nobody else writes them, nor reads those of a list that is not const.
  *  - The lists of one call do not overlap.
  *  - 96 KiB of stack beside the lent lists. No call recurses, so its stack does not grow with its input; the bound is measured
  *    (tests/calls.c) and not proved.
@@ -20,7 +20,7 @@
  *  - The call returns, with the answer that its definition gives: crates/exports/src/lib.rt has the contracts, which the prover has
  *    checked and which ask for nothing more than the above, crates/exports/specs/Numbers.antt the definitions.
  *  - Const lists are only read. Other lists are written as said below and no further: words of a graph list past the first
- *    BNV_GRAPH_WORDS and of a path list past the first BNV_PATH_WORDS never change.
+ *    BNV_GRAPH_WORDS, of a path list past the first BNV_PATH_WORDS and of a words list past the show's words never change.
  *  - Nothing is allocated, no state is kept between calls, and no file, clock or other device is touched. Calls with lists of their
  *    own may run at the same time.
  *
@@ -71,7 +71,7 @@ _Static_assert(sizeof(size_t) == 8, "64-bit numbers only");
 #define BNV_MOST_ACTIONS 16u
 #define BNV_HEADER_WORDS 2u
 
-/* ---- Lent lists of bnv_judge: the words that they need at least, and the only ones that are ever written. */
+/* ---- Lent lists of bnv_judge and bnv_show: the words that they need at least, and the only ones that are ever written. */
 
 #define BNV_GRAPH_WORDS (BNV_MOST_NODES * (BNV_HEADER_WORDS + BNV_MOST_ACTIONS)) /* 9,216 */
 #define BNV_PATH_WORDS 512u
@@ -196,6 +196,37 @@ typedef struct {
 
 BnvJudge bnv_judge(const uint32_t *words, size_t words_length, const uint32_t *lemmas, size_t lemmas_length,
                    uint32_t *graph, size_t graph_length, uint32_t *path, size_t path_length);
+
+/*
+ * ---- Show: the bytes of a show file, judged.
+ *
+ * The bytes are little-endian words. The first word of kind BNV_END is the logic's last, and the words behind it are the lemmas;
+ * without one all are logic. Answers in the order BNV_WORDS_SHORT, BNV_TOO_LONG, BNV_ODD_BYTES, BNV_JUDGED.
+ *
+ * BNV_JUDGED: `judged` is what bnv_judge answers for that logic and those lemmas, a refusal too, and the graph list and the path list
+ * are left as it leaves them. The show's words stand at the front of the words list, and further words are left. So words[0] up to
+ * words[logic - 1] is the list for bnv_check, bnv_action_part and bnv_step, and words[logic] up to words[logic + lemmas - 1], with it,
+ * for bnv_ask. Every other answer leaves the three lists, and `judged` is all 0, which is no verdict: the show may be loaded exactly
+ * where judged.verdict == BNV_SAFE.
+ */
+
+#define BNV_SHOW_BYTES 65536u /* the most bytes of a show; to know that there are more, one more is enough */
+#define BNV_SHOW_WORDS 16384u /* the words that the words list needs at least, and the only ones that are ever written */
+
+#define BNV_TOO_LONG 1u    /* more than BNV_SHOW_BYTES bytes */
+#define BNV_ODD_BYTES 2u   /* a number of bytes that is no multiple of 4: the file was cut */
+#define BNV_WORDS_SHORT 3u /* the words list has fewer than BNV_SHOW_WORDS words */
+#define BNV_JUDGED 4u
+
+typedef struct {
+    uint32_t answer;
+    size_t logic;  /* BNV_JUDGED: how many words the logic has */
+    size_t lemmas; /* BNV_JUDGED: how many words the lemmas have */
+    BnvJudge judged;
+} BnvShow;
+
+BnvShow bnv_show(const uint8_t *bytes, size_t bytes_length, uint32_t *words, size_t words_length,
+                 uint32_t *graph, size_t graph_length, uint32_t *path, size_t path_length);
 
 /*
  * ---- Successor: what the graph list of a verdict says of a node and an action.

@@ -1,4 +1,4 @@
-/* Each function of the static library, called from C on Fade; the stack that each takes; empty lists with null pointers. */
+/* Each function of the static library, called from C on Fade; the stack that each takes; empty lists with null pointers; every lent word. */
 #define _XOPEN_SOURCE 700
 #include <stdio.h>
 #include <stdlib.h>
@@ -32,12 +32,15 @@ static const uint32_t lemmas[] = {
 #define EDGES BNV_HEADER_WORDS
 #define RECORD (BNV_HEADER_WORDS + 2)
 
-/* Lent lists with words past those that Judge may write. */
+/* Lent lists with words past those that Judge and Show may write. */
 static uint32_t graph[BNV_GRAPH_WORDS + 8];
 static uint32_t path[BNV_PATH_WORDS + 8];
+static uint32_t words[BNV_SHOW_WORDS + 8];
 
 static void fill(void)
 {
+    for (size_t i = 0; i < BNV_SHOW_WORDS + 8; i++)
+        words[i] = 0xE7000000u + (uint32_t)i;
     for (size_t i = 0; i < BNV_GRAPH_WORDS + 8; i++)
         graph[i] = 0xA5000000u + (uint32_t)i;
     for (size_t i = 0; i < BNV_PATH_WORDS + 8; i++)
@@ -54,6 +57,28 @@ static int left(size_t from_graph, size_t from_path)
         if (path[i] != 0x5A000000u + (uint32_t)i)
             return 0;
     return 1;
+}
+
+static int words_left(size_t from)
+{
+    for (size_t i = from; i < BNV_SHOW_WORDS + 8; i++)
+        if (words[i] != 0xE7000000u + (uint32_t)i)
+            return 0;
+    return 1;
+}
+
+/* Did the call leave a graph of Fade and no path, and nothing past them? */
+static int graph_of_fade(void)
+{
+    if (graph[0] != 0x80000000 || graph[1] != 0xB0001FFF || graph[EDGES] != 0xC0000000 || graph[EDGES + 1] != 0xC0000000)
+        return 0;
+    for (size_t i = RECORD; i < BNV_GRAPH_WORDS; i++)
+        if (graph[i] != 0)
+            return 0;
+    for (size_t i = 0; i < BNV_PATH_WORDS; i++)
+        if (path[i] != 0)
+            return 0;
+    return left(BNV_GRAPH_WORDS, BNV_PATH_WORDS);
 }
 
 static void check(void)
@@ -120,9 +145,7 @@ static void judge(void)
     BnvJudge j = bnv_judge(fade, LOGIC, lemmas, LEMMAS, graph, BNV_GRAPH_WORDS + 8, path, BNV_PATH_WORDS + 8);
     CHECK(j.verdict == BNV_SAFE && j.node == 0 && j.place == 0 && j.variable == 0 && j.high == 0);
     CHECK(j.nodes == 1 && j.edges == 2 && j.refusal == 0 && j.value == 0);
-    CHECK(graph[0] == 0x80000000 && graph[1] == 0xB0001FFF);
-    CHECK(graph[EDGES] == 0xC0000000 && graph[EDGES + 1] == 0xC0000000 && graph[RECORD] == 0);
-    CHECK(path[0] == 0 && left(BNV_GRAPH_WORDS, BNV_PATH_WORDS));
+    CHECK(graph_of_fade());
     BnvSuccessor s = bnv_successor(graph, RECORD, 1, 2, 0, 1);
     CHECK(s.answer == BNV_NODE && s.node == 0 && s.refusal == 0);
     s = bnv_successor(graph, RECORD - 1, 1, 2, 0, 1);
@@ -151,6 +174,88 @@ static void judge_refused(void)
     CHECK(left(0, 0));
 }
 
+/* Bytes of a show, with room for one byte too many, from any alignment. */
+static uint8_t bytes[BNV_SHOW_BYTES + 8];
+
+/* Fade's bytes from here on; how many. */
+static size_t lay(size_t from)
+{
+    memset(bytes, 0, sizeof bytes);
+    for (size_t i = 0; i < LOGIC + LEMMAS; i++) {
+        uint32_t word = i < LOGIC ? fade[i] : lemmas[i - LOGIC];
+        for (size_t k = 0; k < 4; k++)
+            bytes[from + 4 * i + k] = (uint8_t)(word >> (8 * k));
+    }
+    return 4 * (LOGIC + LEMMAS);
+}
+
+static int no_judge(BnvJudge j)
+{
+    return j.verdict == 0 && j.node == 0 && j.place == 0 && j.variable == 0 && j.high == 0 && j.nodes == 0 && j.edges == 0 &&
+           j.refusal == 0 && j.value == 0;
+}
+
+/* Fade from each alignment, and the other calls on the words that it leaves. */
+static void show(void)
+{
+    for (size_t from = 0; from < 4; from++) {
+        size_t size = lay(from);
+        fill();
+        BnvShow s = bnv_show(bytes + from, size, words, BNV_SHOW_WORDS + 8, graph, BNV_GRAPH_WORDS + 8, path, BNV_PATH_WORDS + 8);
+        CHECK(s.answer == BNV_JUDGED && s.logic == LOGIC && s.lemmas == LEMMAS);
+        CHECK(s.judged.verdict == BNV_SAFE && s.judged.nodes == 1 && s.judged.edges == 2 && s.judged.refusal == 0);
+        CHECK(memcmp(words, fade, sizeof fade) == 0 && memcmp(words + LOGIC, lemmas, sizeof lemmas) == 0);
+        CHECK(words_left(LOGIC + LEMMAS) && graph_of_fade());
+        CHECK(bnv_check(words, s.logic).answer == BNV_GOOD);
+        CHECK(bnv_ask(words, s.logic, words + s.logic, s.lemmas, 3).answer == BNV_ACCEPTED);
+    }
+    /* Without lemmas; without END, where all words are logic; no bytes at all. */
+    size_t logic = 4 * LOGIC;
+    fill();
+    BnvShow s = bnv_show(bytes + 3, logic, words, BNV_SHOW_WORDS, graph, BNV_GRAPH_WORDS, path, BNV_PATH_WORDS);
+    CHECK(s.answer == BNV_JUDGED && s.logic == LOGIC && s.lemmas == 0 && s.judged.verdict == BNV_MAY_RUN_OFF && words_left(LOGIC));
+    fill();
+    s = bnv_show(bytes + 3, logic - 4, words, BNV_SHOW_WORDS, graph, BNV_GRAPH_WORDS, path, BNV_PATH_WORDS);
+    CHECK(s.answer == BNV_JUDGED && s.logic == LOGIC - 1 && s.lemmas == 0 && s.judged.verdict == BNV_JUDGE_REFUSED);
+    CHECK(s.judged.refusal == BNV_REFUSED_WORD && s.judged.value == LOGIC - 1 && words_left(LOGIC - 1) && left(0, 0));
+    fill();
+    s = bnv_show(NULL, 0, words, BNV_SHOW_WORDS, graph, BNV_GRAPH_WORDS, path, BNV_PATH_WORDS);
+    CHECK(s.answer == BNV_JUDGED && s.logic == 0 && s.lemmas == 0 && s.judged.verdict == BNV_JUDGE_REFUSED);
+    CHECK(s.judged.refusal == BNV_REFUSED_WORD && s.judged.value == 0 && words_left(0) && left(0, 0));
+}
+
+/* The longest show; the three answers without a verdict, which leave every list; Judge's refusals of its lists. */
+static void show_refused(void)
+{
+    size_t size = lay(0);
+    fill();
+    BnvShow s = bnv_show(bytes, BNV_SHOW_BYTES, words, BNV_SHOW_WORDS, graph, BNV_GRAPH_WORDS, path, BNV_PATH_WORDS);
+    CHECK(s.answer == BNV_JUDGED && s.logic == LOGIC && s.lemmas == BNV_SHOW_WORDS - LOGIC && words_left(BNV_SHOW_WORDS));
+    CHECK(s.judged.verdict == BNV_JUDGE_REFUSED && s.judged.refusal == BNV_REFUSED_LEMMA && s.judged.value == LEMMAS && left(0, 0));
+    fill();
+    for (size_t more = 1; more < 5; more++) {
+        s = bnv_show(bytes, BNV_SHOW_BYTES + more, words, BNV_SHOW_WORDS, graph, BNV_GRAPH_WORDS, path, BNV_PATH_WORDS);
+        CHECK(s.answer == BNV_TOO_LONG && s.logic == 0 && s.lemmas == 0 && no_judge(s.judged));
+    }
+    for (size_t less = 1; less < 4; less++) {
+        s = bnv_show(bytes, size - less, words, BNV_SHOW_WORDS, graph, BNV_GRAPH_WORDS, path, BNV_PATH_WORDS);
+        CHECK(s.answer == BNV_ODD_BYTES && s.logic == 0 && s.lemmas == 0 && no_judge(s.judged));
+    }
+    /* The words list first, whatever the bytes are; the bytes before the other two lists. */
+    s = bnv_show(bytes, BNV_SHOW_BYTES + 1, words, BNV_SHOW_WORDS - 1, graph, BNV_GRAPH_WORDS, path, BNV_PATH_WORDS);
+    CHECK(s.answer == BNV_WORDS_SHORT && s.logic == 0 && s.lemmas == 0 && no_judge(s.judged));
+    s = bnv_show(bytes, size, NULL, 0, NULL, 0, NULL, 0);
+    CHECK(s.answer == BNV_WORDS_SHORT && s.logic == 0 && s.lemmas == 0 && no_judge(s.judged));
+    s = bnv_show(bytes, size - 1, words, BNV_SHOW_WORDS, NULL, 0, NULL, 0);
+    CHECK(s.answer == BNV_ODD_BYTES && words_left(0) && left(0, 0));
+    s = bnv_show(bytes, size, words, BNV_SHOW_WORDS, graph, BNV_GRAPH_WORDS - 1, path, BNV_PATH_WORDS);
+    CHECK(s.answer == BNV_JUDGED && s.logic == LOGIC && s.lemmas == LEMMAS && s.judged.verdict == BNV_JUDGE_REFUSED);
+    CHECK(s.judged.refusal == BNV_REFUSED_SHORT && s.judged.value == 0 && words_left(LOGIC + LEMMAS) && left(0, 0));
+    s = bnv_show(bytes, size, words, BNV_SHOW_WORDS, graph, BNV_GRAPH_WORDS, path, BNV_PATH_WORDS - 1);
+    CHECK(s.answer == BNV_JUDGED && s.judged.verdict == BNV_JUDGE_REFUSED && s.judged.refusal == BNV_REFUSED_SHORT && s.judged.value == 1);
+    CHECK(left(0, 0));
+}
+
 /* Every part, on a stack whose untouched bytes are counted. */
 static unsigned char stack[4 * MOST_STACK];
 static ucontext_t home, away;
@@ -172,14 +277,14 @@ static size_t taken(void (*part)(void))
 
 int main(void)
 {
-    void (*parts[])(void) = {check, action_part, step, ask, judge, judge_refused};
-    size_t most = 0;
+    void (*parts[])(void) = {check, action_part, step, ask, judge, judge_refused, show_refused, show};
+    size_t most = 0, last = 0;
     for (size_t i = 0; i < sizeof parts / sizeof *parts; i++) {
-        size_t bytes = taken(parts[i]);
-        if (bytes > most)
-            most = bytes;
+        last = taken(parts[i]);
+        if (last > most)
+            most = last;
     }
     CHECK(most <= MOST_STACK);
-    printf("calls: at most %zu bytes of stack\n", most);
+    printf("calls: at most %zu bytes of stack, bnv_show %zu\n", most, last);
     return 0;
 }

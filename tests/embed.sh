@@ -1,6 +1,6 @@
 #!/bin/bash
-# The static library from C and from Rust: each call on Fade, and both examples on shows, which say the same and what is expected.
-# It prints `ok` at the end. `rt staticlib exports` is run only where the library is missing.
+# The static library from C and from Rust: the header as C11 and as C++17, each call on Fade, and both examples on shows and in trouble, which
+# print the same and end with the same status. It prints `ok` at the end. `rt staticlib exports` is run only where the library is missing.
 set -eu
 cd "$(dirname "$(readlink -f "$0")")/.."
 room=$(mktemp -d)
@@ -10,38 +10,103 @@ export CARGO_TARGET_DIR=$room/cargo
 
 [ -f "$library" ] || rt staticlib exports >"$room/rt" 2>&1 || { cat "$room/rt"; exit 1; }
 
+strict="-O2 -Wall -Wextra -Werror -pedantic -Iinclude"
 compile() { # SOURCE PROGRAM
-    cc -std=c11 -O2 -Wall -Wextra -Werror -pedantic -Iinclude "$1" "$library" -o "$2"
+    cc -std=c11 $strict "$1" "$library" -o "$2"
 }
+cc -std=c11 $strict -fsyntax-only -x c tests/header.c
+c++ -std=c++17 $strict -fsyntax-only -x c++ tests/header.c
 compile tests/calls.c "$room/calls"
 compile examples/show.c "$room/show"
 (cd wrapper && cargo build --release --offline --quiet --example show)
+shows=("$room/show" "$CARGO_TARGET_DIR/release/examples/show")
 
 "$room/calls"
 (cd wrapper && cargo test --release --offline --quiet >"$room/tests" 2>&1) || { cat "$room/tests"; exit 1; }
 
-# Both examples say this of a show.
-says() { # SHOW LINES
-    "$room/show" "$1" >"$room/c"
-    "$CARGO_TARGET_DIR/release/examples/show" "$1" >"$room/rust"
-    printf '%s\n' "$2" >"$room/expected"
-    diff "$room/expected" "$room/c" && diff "$room/c" "$room/rust" || { echo "$1: not as expected"; exit 1; }
+fail() { # LINE
+    echo "$1"
+    exit 1
 }
-says shows/fade.words 'safe: nodes 1, edges 2'
-says shows/house.words 'safe: nodes 3, edges 10'
-says shows/rig8.words 'safe: nodes 500, edges 5600'
+
+# Both examples print these lines of a show, and end with this status.
+says() { # SHOW STATUS LINES
+    local program status
+    printf '%s\n' "$3" >"$room/expected"
+    for program in "${shows[@]}"; do
+        status=0
+        "$program" "$1" >"$room/out" 2>"$room/err" || status=$?
+        diff "$room/expected" "$room/out" && [ ! -s "$room/err" ] && [ "$status" -eq "$2" ] \
+            || fail "$program $1: not as expected, status $status"
+    done
+}
+# Lists of words as a file.
+words() { # FILE WORD..
+    local file=$1 w
+    shift
+    for w; do
+        printf '%b' "\\x${w:6:2}\\x${w:4:2}\\x${w:2:2}\\x${w:0:2}"
+    done >"$file"
+}
+says shows/fade.words 0 'safe: nodes 1, edges 2'
+says shows/house.words 0 'safe: nodes 3, edges 10'
+says shows/rig8.words 0 'safe: nodes 500, edges 5600'
 
 # Fade without lemmas.
 head -c 64 shows/fade.words >"$room/bare"
-says "$room/bare" 'action 0 may take variable 0 below its low end at node 0
+says "$room/bare" 1 'action 0 may take variable 0 below its low end at node 0
 actions: none'
 # House without lemma 4, that action 0 makes predicate 0 fail: its words are 49 to 52.
 { head -c 196 shows/house.words; tail -c +213 shows/house.words; } >"$room/house"
-says "$room/house" 'may meet forbidden combination 0 at node 1
+says "$room/house" 1 'may meet forbidden combination 0 at node 1
 actions: 0'
-# A list that breaks off.
+# Lists that break off, nothing, nine variables, a range upside down, half a lemma.
 head -c 20 shows/house.words >"$room/short"
-says "$room/short" 'refused: 2, 5'
+says "$room/short" 3 'refused: word 5 is missing, of the wrong kind, after the end, or has a stray bit (2 AT 5)'
 : >"$room/empty"
-says "$room/empty" 'refused: 2, 0'
+says "$room/empty" 3 'refused: word 0 is missing, of the wrong kind, after the end, or has a stray bit (2 AT 0)'
+words "$room/nine" 10000001 10000001 10000001 10000001 10000001 10000001 10000001 10000001 10000001
+says "$room/nine" 3 'refused: word 8 is one too many of its kind, or counts too many (3 AT 8)'
+words "$room/range" 10004000
+says "$room/range" 3 'refused: word 0 has a number that is not allowed (4 AT 0)'
+head -c 72 shows/fade.words >"$room/lemma"
+says "$room/lemma" 3 'refused: word 2 of the lemmas is missing or against the rules (5 AT 2)'
+# A byte too few, and the longest show, which zeros fill, with one byte and with four more.
+head -c 127 shows/fade.words >"$room/odd"
+says "$room/odd" 3 'odd bytes: the file was cut'
+head -c 65536 /dev/zero >"$room/zeros"
+says "$room/zeros" 3 'refused: word 0 is missing, of the wrong kind, after the end, or has a stray bit (2 AT 0)'
+head -c 65537 /dev/zero >"$room/long"
+says "$room/long" 3 'too long: more than 65,536 bytes'
+says /dev/zero 3 'too long: more than 65,536 bytes'
+
+# Every refusal's sentence, also of those that no show gets; the wrapper's test has the same file.
+printf '%s\n' '#define main shown' '#include "show.c"' '#undef main' \
+    'int main(void) { for (uint32_t n = 1; n < 12; n++) if (print_refusal(n, 512) != REFUSED) return 1; return 0; }' >"$room/refusals.c"
+cc -std=c11 $strict -I"$PWD/include" -I"$PWD/examples" "$room/refusals.c" "$library" -o "$room/refusals"
+"$room/refusals" | diff tests/refusals.txt -
+
+# Trouble: status 2, a message on standard error, and no verdict on standard output, where there is one.
+trouble() { # NAME PROGRAM STATUS
+    [ "$3" -eq 2 ] && [ -s "$room/err" ] && [ ! -s "$room/out" ] || fail "$2: $1: status $3"
+}
+for program in "${shows[@]}"; do
+    for file in "$room/missing" "$room" /proc/self/mem; do
+        status=0
+        "$program" "$file" >"$room/out" 2>"$room/err" || status=$?
+        trouble "$file" "$program" "$status"
+    done
+    for file in shows/fade.words "$room/bare" "$room/short" "$room/odd"; do
+        status=0
+        : >"$room/out"
+        "$program" "$file" >/dev/full 2>"$room/err" || status=$?
+        trouble "$file to a full device" "$program" "$status"
+        status=0
+        "$program" "$file" >&- 2>"$room/err" || status=$?
+        trouble "$file to a closed output" "$program" "$status"
+    done
+    status=0
+    "$program" >"$room/out" 2>"$room/err" || status=$?
+    trouble "no file" "$program" "$status"
+done
 echo ok

@@ -2,8 +2,8 @@
 """The embedding interface says the same in its three texts: crates/exports/src/lib.rt, include/bulanevior.h and wrapper/src/raw.rs.
 
 Compared are every record's fields and every function's parameters (names, types, order) and result, and every constant BNV_..; a Rattle slice is
-a pointer and a length. The header and raw.rs have the same constants, lib.rt some of them. The version stands in the header, in wrapper/Cargo.toml
-and at the head of CHANGELOG.md. Prints each difference.
+a pointer and a length. The header and raw.rs have the same constants; lib.rt has the answers, and the code below it kinds, refusals and limits. The
+version stands in the header, in wrapper/Cargo.toml and at the head of CHANGELOG.md. Prints each difference.
 
 Then the comparison itself is tried: each two neighbouring fields and each two neighbouring parameters exchanged, each result and each constant
 changed, in each text in turn, has to be a difference.
@@ -17,6 +17,19 @@ from pathlib import Path
 ROOT = Path(__file__).resolve().parent.parent
 RATTLE, HEADER, RUST = TEXTS = "crates/exports/src/lib.rt", "include/bulanevior.h", "wrapper/src/raw.rs"
 CARGO, CHANGES = "wrapper/Cargo.toml", "CHANGELOG.md"
+# Constants that stand in the code below: a pattern for the end of the name and the number, and the name in the header.
+BELOW = {
+    "crates/words/src/lib.rt": [
+        (r"const (\w+): Kind = Kind\((\d+)\);", "BNV_{}"),
+        (r"Refusal::(\w+)(?:\(_\))? => (\d+),", "BNV_REFUSED_{}"),
+        (r"const (NODES|ACTIONS): usize = (\d+);", "BNV_MOST_{}"),
+    ],
+    "crates/records/src/lib.rt": [(r"const (HEADER): usize = (\d+);", "BNV_{}_WORDS")],
+    "crates/verdict/src/lib.rt": [(r"const (PATH)_ROOM: usize = (\d+);", "BNV_{}_WORDS")],
+    "crates/show/src/lib.rt": [(r"const (BYTES|WORDS): usize = (\d+);", "BNV_SHOW_{}")],
+}
+# The header makes the one out of others; the other is no number.
+NOT_BELOW = {"BNV_GRAPH_WORDS", "BNV_VERSION"}
 C_TYPES = {"uint8_t": "u8", "uint32_t": "u32", "int32_t": "i32", "size_t": "usize"}
 
 
@@ -146,15 +159,27 @@ def lists_differ(what, parts, texts, lists):
                     break
 
 
-def constants_differ(texts):
-    rattle, header, rust = (t.constants for t in texts)
-    for name in dict.fromkeys([*rattle, *header, *rust]):
+def below(sources):
+    """Each constant of the code below: its text, its name in the header, its number and where that stands."""
+    for file, patterns in BELOW.items():
+        for pattern, name in patterns:
+            for found in re.finditer(pattern, sources[file]):
+                yield file, name.format(found[1].upper()), int(found[2]), found.span(2)
+
+
+def constants_differ(sources, texts):
+    names = dict.fromkeys(n for t in texts for n in t.constants)
+    said_of = {name: {t.name: t.constants[name][0] for t in texts if name in t.constants} for name in names}
+    for file, name, number, _ in below(sources):
+        said_of.setdefault(name, {})[file] = number
+    for name, said in said_of.items():
         if name == "BNV_VERSION":
             continue
-        for text in texts[1:]:
-            if name not in text.constants:
-                yield f"constant {name}: not in {text.name}"
-        said = {t.name: t.constants[name][0] for t in texts if name in t.constants}
+        for text in HEADER, RUST:
+            if text not in said:
+                yield f"constant {name}: not in {text}"
+        if name not in NOT_BELOW and set(said) <= {HEADER, RUST}:
+            yield f"constant {name}: not in the code"
         if len(set(said.values())) > 1:
             yield f"constant {name}: " + ", ".join(f"{value} in {text}" for text, value in said.items())
 
@@ -184,25 +209,40 @@ def differences(sources):
         said = {t.name: t.results[name][0] for t in texts}
         if len(set(said.values())) > 1:
             yield f"function {name}: its result is " + ", ".join(f"{value} in {text}" for text, value in said.items())
-    yield from constants_differ(texts)
+    yield from constants_differ(sources, texts)
     yield from versions_differ(sources, texts[1])
 
 
+def changes(sources):
+    """Every change that has to be noticed: the text that it is in, and the changed text."""
+    for name in TEXTS:
+        for changed in Text(name, sources[name]).changes():
+            yield name, changed
+    for name, _, number, (begin, end) in below(sources):
+        yield name, sources[name][:begin] + str(number + 1) + sources[name][end:]
+
+
+def unnoticed(sources):
+    """How many changes are noticed, and a line for each that is not."""
+    noticed, lines = 0, []
+    for name, changed in changes(sources):
+        if any(True for _ in differences({**sources, name: changed})):
+            noticed += 1
+        else:
+            line = next(i for i, (a, b) in enumerate(zip(changed.split("\n"), sources[name].split("\n")), 1) if a != b)
+            lines.append(f"{name}:{line}: a change here is not noticed")
+    return noticed, lines
+
+
 def main():
-    sources = {name: (ROOT / name).read_text() for name in (*TEXTS, CARGO, CHANGES)}
+    sources = {name: (ROOT / name).read_text() for name in (*TEXTS, *BELOW, CARGO, CHANGES)}
     bad = list(differences(sources))
     if not bad:
-        header, noticed = Text(HEADER, sources[HEADER]), 0
-        for name in TEXTS:
-            for changed in Text(name, sources[name]).changes():
-                if any(True for _ in differences({**sources, name: changed})):
-                    noticed += 1
-                else:
-                    line = next(i for i, (a, b) in enumerate(zip(changed.split("\n"), sources[name].split("\n")), 1) if a != b)
-                    bad.append(f"{name}:{line}: a change here is not noticed")
-        many = [len(header.records), sum(map(len, header.records.values())), len(header.functions), sum(map(len, header.functions.values()))]
-        print("interface: {} records with {} fields, {} functions with {} parameters, {} constants; {} exchanges and changes noticed".format(
-            *many, len(header.constants), noticed))
+        noticed, bad = unnoticed(sources)
+        header = Text(HEADER, sources[HEADER])
+        fields, parameters = (sum(len(items) for items in lists.values()) for lists in (header.records, header.functions))
+        print(f"interface: {len(header.records)} records with {fields} fields, {len(header.functions)} functions with {parameters} parameters, "
+              f"{len(header.constants)} constants; {noticed} exchanges and changes noticed")
     print("\n".join(bad), end="\n" if bad else "")
     return 1 if bad else 0
 

@@ -4,12 +4,15 @@ use crate::counts::*;
 use crate::dice::Dice;
 use crate::generate::Input;
 use crate::other;
-use bulanevior::raw::{self as library, BnvJudge, BNV_JUDGE_REFUSED, BNV_NODE, BNV_NO_NODE, BNV_SAFE};
-use independent::words::{EDGE, GRAPH_WORDS, HEADER, MAX_NODES, PATH_WORDS};
+use bulanevior::raw::{self as library, BnvJudge, BNV_JUDGED, BNV_JUDGE_REFUSED, BNV_NODE, BNV_NO_NODE, BNV_SAFE};
+use independent::words::{EDGE, END, GRAPH_WORDS, HEADER, MAX_NODES, PATH_WORDS};
 
 /// Words before and behind each lent list that no call may touch.
 const MARGIN: usize = 32;
 const LONGEST: usize = 12_000;
+/// Of a show: the most bytes, and the least words of the list that they are read into.
+const SHOW_BYTES: usize = 65_536;
+const SHOW_WORDS: usize = 16_384;
 
 pub struct Compare {
     pub counts: Counts,
@@ -19,6 +22,7 @@ pub struct Compare {
     /// Lent lists with their margins: library, independent.
     graphs: [Vec<u32>; 2],
     paths: [Vec<u32>; 2],
+    shows: [Vec<u32>; 2],
     states: [Vec<i32>; 2],
 }
 
@@ -54,9 +58,10 @@ impl Compare {
         Compare {
             counts: Counts::default(),
             calls: 0,
-            pattern: (0..LONGEST + 2 * MARGIN + 1024).map(|_| dice.next() as u32).collect(),
+            pattern: (0..SHOW_WORDS + 64 + 2 * MARGIN + 1024).map(|_| dice.next() as u32).collect(),
             graphs: Default::default(),
             paths: Default::default(),
+            shows: Default::default(),
             states: Default::default(),
         }
     }
@@ -109,12 +114,7 @@ impl Compare {
 
     /// `graph` and `path` are the lengths lent, `offset` the place in the pattern that fills them.
     pub fn judge(&mut self, input: &Input, graph: usize, path: usize, offset: usize) -> Result<BnvJudge, Difference> {
-        for (lists, length) in [(&mut self.graphs, graph), (&mut self.paths, path)] {
-            for list in lists {
-                list.clear();
-                list.extend_from_slice(&self.pattern[offset..offset + length + 2 * MARGIN]);
-            }
-        }
+        self.lend(offset, graph, path, 0);
         let (g, p) = (MARGIN..MARGIN + graph, MARGIN..MARGIN + path);
         let ours = library::judge(
             &input.program,
@@ -128,15 +128,84 @@ impl Compare {
         if ours != theirs {
             return Err(differ(input, &name(), &ours, &theirs));
         }
-        for (list, lists) in [("graph", &self.graphs), ("path", &self.paths)] {
+        self.lent_alike(input, &name, &ours)?;
+        self.note_judge(&theirs, path);
+        Ok(theirs)
+    }
+
+    /// Fills the lists of both sides, with their margins, from a place of the pattern.
+    fn lend(&mut self, offset: usize, graph: usize, path: usize, words: usize) {
+        for (lists, length) in [(&mut self.graphs, graph), (&mut self.paths, path), (&mut self.shows, words)] {
+            for list in lists {
+                list.clear();
+                list.extend_from_slice(&self.pattern[offset..offset + length + 2 * MARGIN]);
+            }
+        }
+    }
+
+    /// Every lent word is the same on both sides.
+    fn lent_alike(&self, input: &Input, name: &dyn Fn() -> String, answer: &dyn std::fmt::Debug) -> Result<(), Difference> {
+        for (list, lists) in [("graph", &self.graphs), ("path", &self.paths), ("words", &self.shows)] {
             if let Some(at) = first(&lists[0], &lists[1]) {
                 let place = format!("{}: {list} word {}", name(), at as i64 - MARGIN as i64);
-                let word = |side: usize| format!("{:08X} after {ours:?}", lists[side][at]);
+                let word = |side: usize| format!("{:08X} after {answer:?}", lists[side][at]);
                 return Err(differ(input, &place, &word(0), &word(1)));
             }
         }
-        self.note_judge(&theirs, path);
-        Ok(theirs)
+        Ok(())
+    }
+
+    /// The bytes of an input, whole or damaged, through the call from bytes.
+    pub fn show(&mut self, input: &Input, dice: &Dice) -> Result<(), Difference> {
+        let mut words = [&input.program[..], &input.lemmas[..]].concat();
+        if dice.percent(15) {
+            words.insert(dice.below(words.len() + 1), END << 28 | if dice.percent(50) { 0 } else { dice.next() as u32 >> 4 });
+        }
+        // From any alignment.
+        let mut bytes = vec![0; dice.below(4)];
+        let from = bytes.len();
+        bytes.extend(words.iter().flat_map(|w| w.to_le_bytes()));
+        let size = bytes.len() - from;
+        let cut = match dice.below(20) {
+            0..=11 => size,
+            12 | 13 => dice.below(size + 1),
+            14 => dice.below(size / 4 + 1) * 4,
+            15 | 16 => size + 1 + dice.below(3),
+            _ => SHOW_BYTES + dice.pick(&[0, 0, 0, 1, 2, 3, 4, 400]),
+        };
+        bytes.resize(from + cut, dice.pick(&[0, 0xFF, 0x90]));
+        let (graph, path) = (length(dice, GRAPH_WORDS, LONGEST), length(dice, PATH_WORDS, 2000));
+        let room = length(dice, SHOW_WORDS, SHOW_WORDS + 64);
+        self.lend(dice.below(1024), graph, path, room);
+        let (g, p, w) = (MARGIN..MARGIN + graph, MARGIN..MARGIN + path, MARGIN..MARGIN + room);
+        let bytes = &bytes[from..];
+        let [ours, theirs] = [0, 1].map(|side| {
+            let lists = (&mut self.shows[side][w.clone()], &mut self.graphs[side][g.clone()], &mut self.paths[side][p.clone()]);
+            let call = if side == 0 { library::show } else { other::show };
+            call(bytes, lists.0, lists.1, lists.2)
+        });
+        self.calls += 1;
+        let name = || format!("show of {cut} bytes with lists of {room}, {graph} and {path} words");
+        if ours != theirs {
+            return Err(differ(input, &name(), &ours, &theirs));
+        }
+        self.lent_alike(input, &name, &ours)?;
+        self.counts.note(show_name(theirs.answer));
+        if theirs.answer == BNV_JUDGED {
+            self.counts.note(shown_name(theirs.judged.verdict));
+            let ends = self.shows[1][MARGIN..MARGIN + cut / 4].iter().filter(|w| **w >> 28 == END).count();
+            for (holds, name) in [
+                (ends == 0, "show without END"),
+                (ends > 1, "show of END and more END"),
+                (bytes.as_ptr() as usize % 4 != 0, "show off a word's alignment"),
+                (cut == SHOW_BYTES, "show of 65,536 bytes"),
+            ] {
+                if holds {
+                    self.counts.note(name);
+                }
+            }
+        }
+        Ok(())
     }
 
     fn note_judge(&mut self, j: &BnvJudge, path: usize) {
@@ -214,6 +283,9 @@ impl Compare {
             self.views(judged.nodes, check.actions, dice)?;
         } else if dice.percent(3) {
             self.views(dice.below(20), check.actions, dice)?;
+        }
+        if dice.percent(30) {
+            self.show(input, dice)?;
         }
         // The words lent for reading are as they were.
         if mine.program != input.program || mine.lemmas != input.lemmas {

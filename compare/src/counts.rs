@@ -20,6 +20,8 @@ pub const DUE: &[&str] = &[
     "finding past node 0", "finding past node 63", "path of 64 steps or more", "safe, combinations named", "safe, 64 nodes or more",
     "nodes 0", "nodes 1", "nodes 2 to 15", "nodes 16 to 63", "nodes 64 to 127", "nodes 128 to 255", "nodes 256 to 511", "nodes 512",
     "view node", "view none", "view refusal 1", "view refusal 2", "view refusal 3", "view refusal 8 node", "view refusal 8 action",
+    "show judged", "show too long", "show odd bytes", "show words short", "show safe", "show may forbid", "show may run off", "show refused",
+    "show without END", "show of END and more END", "show off a word's alignment", "show of 65,536 bytes",
     "all states walked", "all states walked, safe", "all states walked, safe, 2 nodes or more",
     "accepted lemma, all states", "reachable states, safe",
 ];
@@ -100,6 +102,24 @@ pub fn judge_name(verdict: u32, high: u32, refusal: u32, value: usize) -> &'stat
         (_, _, 5, _) => "judge refusal 5",
         (_, _, 6, _) => "judge refusal 6",
         _ => "judge refusal 7",
+    }
+}
+
+pub fn show_name(answer: u32) -> &'static str {
+    match answer {
+        BNV_TOO_LONG => "show too long",
+        BNV_ODD_BYTES => "show odd bytes",
+        BNV_WORDS_SHORT => "show words short",
+        _ => "show judged",
+    }
+}
+
+pub fn shown_name(verdict: u32) -> &'static str {
+    match verdict {
+        BNV_SAFE => "show safe",
+        BNV_MAY_FORBID => "show may forbid",
+        BNV_MAY_RUN_OFF => "show may run off",
+        _ => "show refused",
     }
 }
 

@@ -1,4 +1,5 @@
-//! The independent code behind the same six calls. Fields that an answer does not use are 0.
+//! The independent code behind the same seven calls. Fields that an answer does not use are 0. It has no call from bytes: those of
+//! `show` are made words and split here, by hand.
 
 use bulanevior::raw::*;
 use independent::{Asked, Judged, Stepped};
@@ -69,6 +70,23 @@ pub fn judge(words: &[u32], lemmas: &[u32], graph: &mut [u32], path: &mut [u32])
             BnvJudge { verdict: BNV_JUDGE_REFUSED, refusal: r.number, value: r.value as usize, ..NO_JUDGE }
         }
     }
+}
+
+pub fn show(bytes: &[u8], words: &mut [u32], graph: &mut [u32], path: &mut [u32]) -> BnvShow {
+    let none = |answer| BnvShow { answer, logic: 0, lemmas: 0, judged: NO_JUDGE };
+    if words.len() < 16_384 {
+        return none(BNV_WORDS_SHORT);
+    }
+    if bytes.len() > 65_536 {
+        return none(BNV_TOO_LONG);
+    }
+    if bytes.len() % 4 != 0 {
+        return none(BNV_ODD_BYTES);
+    }
+    let show: Vec<u32> = bytes.chunks_exact(4).map(|b| u32::from_le_bytes([b[0], b[1], b[2], b[3]])).collect();
+    words[..show.len()].copy_from_slice(&show);
+    let (logic, lemmas) = show.split_at(show.iter().position(|w| w >> 28 == 15).map_or(show.len(), |at| at + 1));
+    BnvShow { answer: BNV_JUDGED, logic: logic.len(), lemmas: lemmas.len(), judged: judge(logic, lemmas, graph, path) }
 }
 
 pub fn successor(graph: &[u32], nodes: usize, actions: usize, node: usize, action: usize) -> BnvSuccessor {

@@ -1,45 +1,66 @@
-//! Judges a show file: `show FILE`. The words up to the first of kind 15 are the logic, the rest are lemmas.
-use bulanevior::{
-    actions, judge, split, End, Judgement, Refusal, Verdict, GRAPH_WORDS, PATH_WORDS,
-};
+//! Judges a show file: `show FILE`. Prints one line, and after a finding a second one with the actions that lead there.
+//!
+//! The exit status: 0 safe; 1 a finding; 3 the show is refused, cut or too long; 2 trouble: the file cannot be read, or the
+//! answer cannot be printed, and there is no verdict. Only 0 lets a desk load the show.
+use bulanevior::*;
+use std::fs::File;
+use std::io::{Read, Write};
+use std::path::Path;
 use std::process::ExitCode;
+use std::sync::atomic::{AtomicBool, Ordering};
 
-const MOST_WORDS: usize = 16384;
+const SAFE: u8 = 0;
+const FINDING: u8 = 1;
+const TROUBLE: u8 = 2;
+const REFUSED: u8 = 3;
 
-/// Reads little-endian words.
-fn load(name: &str) -> Result<Vec<u32>, String> {
-    let bytes = std::fs::read(name).map_err(|e| format!("{name}: {e}"))?;
-    if bytes.len() > 4 * MOST_WORDS || bytes.len() % 4 != 0 {
-        return Err(format!("{name}: not a list of at most {MOST_WORDS} words"));
+/// Was standard output closed when the program began? The runtime opens /dev/null in its place before `main`, and what is
+/// printed would be lost without an error; so this is looked at before that.
+static CLOSED: AtomicBool = AtomicBool::new(false);
+
+extern "C" fn look() {
+    extern "C" {
+        fn fcntl(file: i32, command: i32, ...) -> i32;
     }
-    Ok(bytes
-        .chunks_exact(4)
-        .map(|b| u32::from_le_bytes([b[0], b[1], b[2], b[3]]))
-        .collect())
+    const STANDARD_OUTPUT: i32 = 1;
+    const GET_FLAGS: i32 = 3;
+    CLOSED.store(
+        unsafe { fcntl(STANDARD_OUTPUT, GET_FLAGS) } < 0,
+        Ordering::Relaxed,
+    );
+}
+
+#[used]
+#[link_section = ".init_array"]
+static LOOK: extern "C" fn() = look;
+
+/// Reads the file, or one byte more than a show may have.
+fn load(name: &Path) -> std::io::Result<Vec<u8>> {
+    let mut bytes = Vec::new();
+    File::open(name)?
+        .take(SHOW_BYTES as u64 + 1)
+        .read_to_end(&mut bytes)?;
+    Ok(bytes)
 }
 
 /// The actions that lead to a finding.
-fn print_path(path: &[u32]) {
-    print!("actions:");
+fn path_text(path: &[u32]) -> String {
     if actions(path).next().is_none() {
-        print!(" none");
+        return "actions: none\n".to_string();
     }
-    for action in actions(path) {
-        print!(" {action}");
-    }
-    println!();
+    let all: String = actions(path).map(|action| format!(" {action}")).collect();
+    format!("actions:{all}\n")
 }
 
-fn print(answer: Result<Judgement, Refusal>, path: &[u32]) {
-    let j = match answer {
-        Ok(j) => j,
-        Err(why) => return println!("refused: {}, {}", why.number(), why.value()),
-    };
-    match j.verdict {
-        Verdict::Safe => println!("safe: nodes {}, edges {}", j.nodes, j.edges),
+/// What is said of a judgement, and the exit status.
+fn verdict_text(j: Judgement, path: &[u32]) -> (String, u8) {
+    let said = match j.verdict {
+        Verdict::Safe => {
+            let (nodes, edges) = (j.nodes, j.edges);
+            return (format!("safe: nodes {nodes}, edges {edges}\n"), SAFE);
+        }
         Verdict::MayForbid { node, combination } => {
-            println!("may meet forbidden combination {combination} at node {node}");
-            print_path(path);
+            format!("may meet forbidden combination {combination} at node {node}\n")
         }
         Verdict::MayRunOff {
             node,
@@ -51,28 +72,54 @@ fn print(answer: Result<Judgement, Refusal>, path: &[u32]) {
                 End::Low => "below its low end",
                 End::High => "above its high end",
             };
-            println!("action {action} may take variable {variable} {way} at node {node}");
-            print_path(path);
+            format!("action {action} may take variable {variable} {way} at node {node}\n")
         }
+    };
+    (said + &path_text(path), FINDING)
+}
+
+/// What is said of a show, and the exit status; or the trouble.
+fn text(show: Result<Show, NoShow>, path: &[u32]) -> Result<(String, u8), String> {
+    match show {
+        Ok(show) => match show.answer {
+            Ok(j) => Ok(verdict_text(j, path)),
+            Err(why @ Refusal::Mismatch(_)) => Err(why.to_string()),
+            Err(why) => Ok((format!("refused: {why}\n"), REFUSED)),
+        },
+        Err(why @ (NoShow::TooLong | NoShow::OddBytes)) => Ok((format!("{why}\n"), REFUSED)),
+        Err(why) => Err(why.to_string()),
     }
 }
 
+fn print(said: &str) -> std::io::Result<()> {
+    if CLOSED.load(Ordering::Relaxed) {
+        return Err(std::io::Error::other("closed"));
+    }
+    let mut out = std::io::stdout().lock();
+    out.write_all(said.as_bytes())?;
+    out.flush()
+}
+
+/// The exit status, or the trouble.
+fn run(name: &Path) -> Result<u8, String> {
+    let bytes = load(name).map_err(|e| format!("{}: {e}", name.display()))?;
+    let mut words = vec![0; SHOW_WORDS];
+    let mut graph = vec![0; GRAPH_WORDS];
+    let mut path = vec![0; PATH_WORDS];
+    let shown = show(&bytes, &mut words, &mut graph, &mut path);
+    let (said, status) = text(shown, &path)?;
+    print(&said).map_err(|e| format!("standard output: {e}"))?;
+    Ok(status)
+}
+
 fn main() -> ExitCode {
-    let mut arguments = std::env::args().skip(1);
-    let (Some(name), None) = (arguments.next(), arguments.next()) else {
-        eprintln!("usage: show FILE");
-        return ExitCode::from(2);
+    let mut arguments = std::env::args_os().skip(1);
+    let done = match (arguments.next(), arguments.next()) {
+        (Some(name), None) => run(Path::new(&name)),
+        _ => Err("usage: show FILE".to_string()),
     };
-    let words = match load(&name) {
-        Ok(words) => words,
-        Err(message) => {
-            eprintln!("{message}");
-            return ExitCode::from(2);
-        }
-    };
-    let (logic, lemmas) = split(&words);
-    let mut graph = [0; GRAPH_WORDS];
-    let mut path = [0; PATH_WORDS];
-    print(judge(logic, lemmas, &mut graph, &mut path), &path);
-    ExitCode::SUCCESS
+    ExitCode::from(done.unwrap_or_else(|trouble| {
+        let _ = writeln!(std::io::stderr(), "{trouble}");
+        TROUBLE
+    }))
 }

@@ -11,6 +11,8 @@ compile_error!("64-bit numbers only");
 
 pub mod raw;
 
+use std::fmt;
+
 /// The most nodes of a graph.
 pub const MOST_NODES: usize = raw::BNV_MOST_NODES as usize;
 /// The most actions of a program.
@@ -22,6 +24,11 @@ pub const HEADER_WORDS: usize = raw::BNV_HEADER_WORDS as usize;
 pub const GRAPH_WORDS: usize = raw::BNV_GRAPH_WORDS as usize;
 /// The words that `judge` needs in a path list, and the only ones that it ever writes there.
 pub const PATH_WORDS: usize = raw::BNV_PATH_WORDS as usize;
+
+/// The most bytes of a show. To know that there are more, `show` has to see one more.
+pub const SHOW_BYTES: usize = raw::BNV_SHOW_BYTES as usize;
+/// The words that `show` needs in a words list, and the only ones that it ever writes there.
+pub const SHOW_WORDS: usize = raw::BNV_SHOW_WORDS as usize;
 
 /// A word's kind, its bits 31 to 28.
 pub fn kind(word: u32) -> u32 {
@@ -116,6 +123,39 @@ impl Refusal {
             | Refusal::State(n)
             | Refusal::Sum(n) => n,
         }
+    }
+}
+
+/// A sentence for the operator, with number and value behind it as the operator's program prints them.
+impl fmt::Display for Refusal {
+    fn fmt(&self, f: &mut fmt::Formatter<'_>) -> fmt::Result {
+        match *self {
+            Refusal::Short(_) => write!(f, "a lent list is too short, a fault of the caller")?,
+            Refusal::Word(n) => write!(
+                f,
+                "word {n} is missing, of the wrong kind, after the end, or has a stray bit"
+            )?,
+            Refusal::Limit(n) => write!(
+                f,
+                "word {n} is one too many of its kind, or counts too many"
+            )?,
+            Refusal::Value(n) => write!(f, "word {n} has a number that is not allowed")?,
+            Refusal::Lemma(n) => {
+                write!(f, "word {n} of the lemmas is missing or against the rules")?
+            }
+            Refusal::Lemmas(n) => {
+                write!(f, "word {n} of the lemmas begins one more than 512 lemmas")?
+            }
+            Refusal::Nodes => write!(f, "the picture of this show needs more than 512 nodes")?,
+            Refusal::Absent(n) => write!(f, "there is no action, lemma or node {n}")?,
+            Refusal::Length(n) => write!(f, "the state has {n} values, not one for each variable")?,
+            Refusal::State(n) => write!(f, "the value of variable {n} is off its range")?,
+            Refusal::Sum(n) => write!(f, "the sum of lemma {n} does not fit 64 bits")?,
+            Refusal::Mismatch(n) => {
+                return write!(f, "the library is of another version: {n} is no answer")
+            }
+        }
+        write!(f, " ({} AT {})", self.number(), self.value())
     }
 }
 
@@ -277,13 +317,77 @@ pub fn actions(path: &[u32]) -> impl Iterator<Item = u32> + '_ {
         .map(payload)
 }
 
-/// A show's words as its logic and its lemmas: the first word of kind 15 ends the logic; without one, all words are logic.
-pub fn split(words: &[u32]) -> (&[u32], &[u32]) {
-    let logic = words
-        .iter()
-        .position(|&w| kind(w) == raw::BNV_END)
-        .map_or(words.len(), |i| i + 1);
-    words.split_at(logic)
+/// A show, as its bytes were read: the lists for `check`, `action_part`, `step` and `ask`, and Judge's answer.
+#[derive(Clone, Copy, Debug, PartialEq, Eq)]
+pub struct Show<'a> {
+    /// The words up to the first of kind 15 and with it; without one, all words.
+    pub logic: &'a [u32],
+    pub lemmas: &'a [u32],
+    pub answer: Result<Judgement, Refusal>,
+}
+
+impl Show<'_> {
+    /// May the show be loaded?
+    pub fn is_safe(&self) -> bool {
+        self.answer.is_ok_and(|j| j.verdict == Verdict::Safe)
+    }
+}
+
+/// Why there is nothing to judge. Every lent list is as it was.
+#[derive(Clone, Copy, Debug, PartialEq, Eq)]
+pub enum NoShow {
+    /// More than `SHOW_BYTES` bytes.
+    TooLong,
+    /// A number of bytes that is no multiple of 4: the file was cut.
+    OddBytes,
+    /// The words list has fewer than `SHOW_WORDS` words.
+    WordsShort,
+    /// A number that is no answer, as `Refusal::Mismatch`.
+    Mismatch(u32),
+}
+
+impl fmt::Display for NoShow {
+    fn fmt(&self, f: &mut fmt::Formatter<'_>) -> fmt::Result {
+        match *self {
+            NoShow::TooLong => write!(f, "too long: more than 65,536 bytes"),
+            NoShow::OddBytes => write!(f, "odd bytes: the file was cut"),
+            NoShow::WordsShort => write!(f, "the lent words list is too short"),
+            NoShow::Mismatch(n) => Refusal::Mismatch(n).fmt(f),
+        }
+    }
+}
+
+/// Judges the bytes of a show file, little-endian words. Its words go to the front of the words list; further ones are left. The
+/// other two lists are as those of `judge`.
+pub fn show<'a>(
+    bytes: &[u8],
+    words: &'a mut [u32],
+    graph: &mut [u32],
+    path: &mut [u32],
+) -> Result<Show<'a>, NoShow> {
+    let s = raw::show(bytes, words, graph, path);
+    shown(s, words)
+}
+
+fn shown(s: raw::BnvShow, words: &[u32]) -> Result<Show<'_>, NoShow> {
+    match s.answer {
+        raw::BNV_TOO_LONG => Err(NoShow::TooLong),
+        raw::BNV_ODD_BYTES => Err(NoShow::OddBytes),
+        raw::BNV_WORDS_SHORT => Err(NoShow::WordsShort),
+        raw::BNV_JUDGED => {
+            let logic = words.get(..s.logic);
+            let lemmas = words.get(s.logic..).and_then(|w| w.get(..s.lemmas));
+            let (Some(logic), Some(lemmas)) = (logic, lemmas) else {
+                return Err(NoShow::Mismatch(s.answer));
+            };
+            Ok(Show {
+                logic,
+                lemmas,
+                answer: judged(s.judged),
+            })
+        }
+        other => Err(NoShow::Mismatch(other)),
+    }
 }
 
 /// A reading view over a graph list.
@@ -385,25 +489,77 @@ mod tests {
         });
     }
 
+    /// A record of zeros but for the verdict.
+    fn verdict(verdict: u32) -> BnvJudge {
+        BnvJudge {
+            verdict,
+            node: 0,
+            place: 0,
+            variable: 0,
+            high: 0,
+            nodes: 0,
+            edges: 0,
+            refusal: 0,
+            value: 0,
+        }
+    }
+
     #[test]
     fn only_its_own_number_is_safe() {
-        let of = |verdict| {
-            judged(BnvJudge {
-                verdict,
-                node: 0,
-                place: 0,
-                variable: 0,
-                high: 0,
-                nodes: 0,
-                edges: 0,
-                refusal: 0,
-                value: 0,
-            })
-        };
-        tried(&[BNV_MAY_FORBID, BNV_MAY_RUN_OFF, BNV_SAFE], of);
+        tried(&[BNV_MAY_FORBID, BNV_MAY_RUN_OFF, BNV_SAFE], |n| {
+            judged(verdict(n))
+        });
         for n in (0..20).chain([u32::MAX]) {
-            let safe = of(n).is_ok_and(|j| j.verdict == Verdict::Safe);
+            let safe = judged(verdict(n)).is_ok_and(|j| j.verdict == Verdict::Safe);
             assert_eq!(safe, n == BNV_SAFE, "{n}");
         }
+    }
+
+    #[test]
+    fn only_a_judged_show_is_safe() {
+        let words = [1, 2, 3];
+        for answer in (0..20).chain([u32::MAX]) {
+            for judged in [0, BNV_SAFE] {
+                for (logic, lemmas) in [(0, 0), (1, 2), (4, 0), (3, 1), (usize::MAX, 1)] {
+                    let s = BnvShow {
+                        answer,
+                        logic,
+                        lemmas,
+                        judged: verdict(judged),
+                    };
+                    let safe = shown(s, &words).is_ok_and(|s| s.is_safe());
+                    let good = answer == BNV_JUDGED && judged == BNV_SAFE && logic < 3;
+                    assert_eq!(safe, good, "{s:?}");
+                }
+            }
+        }
+        let none = |answer| {
+            let judged = verdict(0);
+            shown(
+                BnvShow {
+                    answer,
+                    logic: 0,
+                    lemmas: 0,
+                    judged,
+                },
+                &words,
+            )
+        };
+        assert_eq!(none(0), Err(NoShow::Mismatch(0)));
+        assert_eq!(none(BNV_TOO_LONG), Err(NoShow::TooLong));
+        assert_eq!(none(BNV_ODD_BYTES), Err(NoShow::OddBytes));
+        assert_eq!(none(BNV_WORDS_SHORT), Err(NoShow::WordsShort));
+        assert_eq!(
+            none(BNV_JUDGED).map(|s| s.answer),
+            Ok(Err(Refusal::Mismatch(0)))
+        );
+    }
+
+    #[test]
+    fn sentences_are_those_of_the_example_in_c() {
+        let said: String = (1..12)
+            .map(|n| format!("refused: {}\n", Refusal::of(n, 512)))
+            .collect();
+        assert_eq!(said, include_str!("../../tests/refusals.txt"));
     }
 }

@@ -111,6 +111,25 @@ pub struct BnvJudge {
     pub value: usize,
 }
 
+/// The most bytes of a show, and the words that `show` needs in its words list.
+pub const BNV_SHOW_BYTES: u32 = 65536;
+pub const BNV_SHOW_WORDS: u32 = 16384;
+
+pub const BNV_TOO_LONG: u32 = 1;
+pub const BNV_ODD_BYTES: u32 = 2;
+pub const BNV_WORDS_SHORT: u32 = 3;
+pub const BNV_JUDGED: u32 = 4;
+
+#[repr(C)]
+#[derive(Clone, Copy, Debug, PartialEq, Eq)]
+pub struct BnvShow {
+    pub answer: u32,
+    /// Words of the logic, at the front of the words list, and of the lemmas behind it.
+    pub logic: usize,
+    pub lemmas: usize,
+    pub judged: BnvJudge,
+}
+
 pub const BNV_NO_NODE: u32 = 1;
 pub const BNV_SUCCESSOR_REFUSED: u32 = 2;
 pub const BNV_NODE: u32 = 3;
@@ -158,6 +177,17 @@ extern "C" {
         path_length: usize,
     ) -> BnvJudge;
 
+    fn bnv_show(
+        bytes: *const u8,
+        bytes_length: usize,
+        words: *mut u32,
+        words_length: usize,
+        graph: *mut u32,
+        graph_length: usize,
+        path: *mut u32,
+        path_length: usize,
+    ) -> BnvShow;
+
     fn bnv_successor(
         graph: *const u32,
         graph_length: usize,
@@ -193,6 +223,13 @@ pub fn judge(words: &[u32], lemmas: &[u32], graph: &mut [u32], path: &mut [u32])
     let (g, gn) = (graph.as_mut_ptr(), graph.len());
     let (p, pn) = (path.as_mut_ptr(), path.len());
     unsafe { bnv_judge(w, words.len(), l, lemmas.len(), g, gn, p, pn) }
+}
+
+pub fn show(bytes: &[u8], words: &mut [u32], graph: &mut [u32], path: &mut [u32]) -> BnvShow {
+    let (w, wn) = (words.as_mut_ptr(), words.len());
+    let (g, gn) = (graph.as_mut_ptr(), graph.len());
+    let (p, pn) = (path.as_mut_ptr(), path.len());
+    unsafe { bnv_show(bytes.as_ptr(), bytes.len(), w, wn, g, gn, p, pn) }
 }
 
 pub fn successor(

@@ -1,6 +1,8 @@
 //! Each call of the wrapper, on Fade.
 use bulanevior::*;
 
+/// The words of its logic; the others are lemmas.
+const LOGIC: usize = 16;
 const FADE: [u32; 32] = [
     0x100003E8, 0x40000000, 0x50000000, 0x60000011, 0x2FFFFFFB, 0x30000001, 0x70000000, 0x2FFFFFFB,
     0x30000001, 0x60000011, 0x200003E3, 0x3000FFFF, 0x70000000, 0x20000005, 0x30000001, 0xF0000000,
@@ -10,7 +12,7 @@ const FADE: [u32; 32] = [
 
 #[test]
 fn checks() {
-    let (logic, _) = split(&FADE);
+    let logic = &FADE[..LOGIC];
     let counts = Counts {
         variables: 1,
         start_rows: 0,
@@ -25,7 +27,7 @@ fn checks() {
 
 #[test]
 fn hands_back_parts() {
-    let (logic, _) = split(&FADE);
+    let logic = &FADE[..LOGIC];
     assert_eq!(action_part(logic, 1), &logic[9..15]);
     assert_eq!(action_part(logic, 2), &[] as &[u32]);
     assert_eq!(action_part(&[], 0), &[] as &[u32]);
@@ -33,7 +35,7 @@ fn hands_back_parts() {
 
 #[test]
 fn steps() {
-    let (logic, _) = split(&FADE);
+    let logic = &FADE[..LOGIC];
     let mut state = [400];
     assert_eq!(step(logic, 1, &mut state), Ok(Step::Moved));
     assert_eq!(state, [405]);
@@ -52,7 +54,7 @@ fn steps() {
 
 #[test]
 fn asks() {
-    let (logic, lemmas) = split(&FADE);
+    let (logic, lemmas) = FADE.split_at(LOGIC);
     assert_eq!(ask(logic, lemmas, 0), Ok(Ask::Accepted));
     assert_eq!(
         ask(logic, &[0x90030000, 0x80000000, 0xA0000000, 0xA0000000], 0),
@@ -64,7 +66,7 @@ fn asks() {
 
 #[test]
 fn judges() {
-    let (logic, lemmas) = split(&FADE);
+    let (logic, lemmas) = FADE.split_at(LOGIC);
     let mut graph = [7; GRAPH_WORDS + 1];
     let mut path = [7; PATH_WORDS + 1];
     let safe = Judgement {
@@ -97,4 +99,108 @@ fn judges() {
         judge(logic, lemmas, &mut graph, &mut []),
         Err(Refusal::Short(1))
     );
+}
+
+/// Lent lists, longer than they need be, with words that a call has to write over or leave.
+struct Lists {
+    words: Vec<u32>,
+    graph: Vec<u32>,
+    path: Vec<u32>,
+}
+
+fn lists() -> Lists {
+    let list = |length: usize, first: u32| (first..).take(length + 8).collect();
+    Lists {
+        words: list(SHOW_WORDS, 0xE700_0000),
+        graph: list(GRAPH_WORDS, 0xA500_0000),
+        path: list(PATH_WORDS, 0x5A00_0000),
+    }
+}
+
+/// Are words, graph and path from these places on as `lists` made them?
+fn left(l: &Lists, words: usize, graph: usize, path: usize) -> bool {
+    let new = lists();
+    l.words[words..] == new.words[words..]
+        && l.graph[graph..] == new.graph[graph..]
+        && l.path[path..] == new.path[path..]
+}
+
+fn bytes() -> Vec<u8> {
+    FADE.iter().flat_map(|w| w.to_le_bytes()).collect()
+}
+
+#[test]
+fn shows() {
+    let judgement = Judgement {
+        verdict: Verdict::Safe,
+        nodes: 1,
+        edges: 2,
+    };
+    for from in 0..4 {
+        let mut l = lists();
+        let mut moved = vec![0xFF; from];
+        moved.extend(bytes());
+        let shown = show(&moved[from..], &mut l.words, &mut l.graph, &mut l.path).unwrap();
+        assert_eq!((shown.logic, shown.lemmas), FADE.split_at(LOGIC));
+        assert_eq!(shown.answer, Ok(judgement));
+        assert!(shown.is_safe());
+        assert_eq!(ask(shown.logic, shown.lemmas, 3), Ok(Ask::Accepted));
+        assert!(left(&l, FADE.len(), GRAPH_WORDS, PATH_WORDS));
+        let (mut graph, mut path) = (vec![7; GRAPH_WORDS], vec![7; PATH_WORDS]);
+        judge(&FADE[..LOGIC], &FADE[LOGIC..], &mut graph, &mut path).unwrap();
+        assert_eq!(
+            (&l.graph[..GRAPH_WORDS], &l.path[..PATH_WORDS]),
+            (&graph[..], &path[..])
+        );
+    }
+}
+
+#[test]
+fn shows_nothing_and_leaves_the_lists() {
+    let mut l = lists();
+    let long = vec![0; SHOW_BYTES + 1];
+    let short = &mut vec![0; SHOW_WORDS - 1];
+    for (bytes, why) in [
+        (&long[..], NoShow::TooLong),
+        (&long[..5], NoShow::OddBytes),
+        (&bytes()[..127], NoShow::OddBytes),
+    ] {
+        let shown = show(bytes, &mut l.words, &mut l.graph, &mut l.path);
+        assert_eq!(shown, Err(why));
+        let shown = show(bytes, short, &mut l.graph, &mut l.path);
+        assert_eq!(shown, Err(NoShow::WordsShort));
+        assert!(left(&l, 0, 0, 0) && short.iter().all(|w| *w == 0));
+    }
+    assert_eq!(
+        show(&bytes(), &mut [], &mut [], &mut []),
+        Err(NoShow::WordsShort)
+    );
+}
+
+#[test]
+fn shows_refusals() {
+    let mut l = lists();
+    for (bytes, why) in [
+        (&[][..], Refusal::Word(0)),
+        (&bytes()[..4], Refusal::Word(1)),
+        (&bytes()[..124], Refusal::Lemma(15)),
+    ] {
+        let shown = show(bytes, &mut l.words, &mut l.graph, &mut l.path).unwrap();
+        assert_eq!(shown.answer, Err(why));
+        assert!(!shown.is_safe());
+        assert!(left(&l, bytes.len() / 4, 0, 0));
+    }
+    let answer = |l: &mut Lists, graph: usize, path: usize| {
+        let (graph, path) = (&mut l.graph[..graph], &mut l.path[..path]);
+        show(&bytes(), &mut l.words, graph, path).unwrap().answer
+    };
+    let (graph, path) = (
+        answer(&mut l, GRAPH_WORDS - 1, PATH_WORDS),
+        answer(&mut l, GRAPH_WORDS, PATH_WORDS - 1),
+    );
+    assert_eq!(
+        (graph, path),
+        (Err(Refusal::Short(0)), Err(Refusal::Short(1)))
+    );
+    assert!(left(&l, FADE.len(), 0, 0));
 }

@@ -1,0 +1,21 @@
+/* The header by itself, as C11 and as C++17: each call is named, and each record has the size that it has in the library. */
+#include "bulanevior.h"
+
+#ifdef __cplusplus
+#define HOLDS(test) static_assert(test, #test)
+#else
+#define HOLDS(test) _Static_assert(test, #test)
+#endif
+
+HOLDS(sizeof(bnv_check(NULL, 0)) == sizeof(BnvCheck) && sizeof(BnvCheck) == 56);
+HOLDS(sizeof(bnv_action_part(NULL, 0, 0)) == sizeof(BnvPart) && sizeof(BnvPart) == 16);
+HOLDS(sizeof(bnv_step(NULL, 0, 0, NULL, 0)) == sizeof(BnvStep) && sizeof(BnvStep) == 32);
+HOLDS(sizeof(bnv_ask(NULL, 0, NULL, 0, 0)) == sizeof(BnvAsk) && sizeof(BnvAsk) == 16);
+HOLDS(sizeof(bnv_judge(NULL, 0, NULL, 0, NULL, 0, NULL, 0)) == sizeof(BnvJudge) && sizeof(BnvJudge) == 72);
+HOLDS(sizeof(bnv_show(NULL, 0, NULL, 0, NULL, 0, NULL, 0)) == sizeof(BnvShow) && sizeof(BnvShow) == 96);
+HOLDS(sizeof(bnv_successor(NULL, 0, 0, 0, 0, 0)) == sizeof(BnvSuccessor) && sizeof(BnvSuccessor) == 32);
+HOLDS(offsetof(BnvCheck, refusal) == 4 && offsetof(BnvCheck, value) == 8 && offsetof(BnvShow, judged) == 24);
+
+/* Something to compile. */
+extern const char bnv_header_version[];
+const char bnv_header_version[] = BNV_VERSION;
