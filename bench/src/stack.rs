@@ -48,6 +48,9 @@ pub fn used(show: &Show) -> Vec<(&'static str, usize)> {
     let k = show.count - 1;
     let (mut g, mut p) = (vec![0; GRAPH_WORDS], vec![0; PATH_WORDS]);
     let (mut h, mut q) = (vec![0; GRAPH_WORDS], vec![0; PATH_WORDS]);
+    let (mut i, mut r) = (vec![0; GRAPH_WORDS], vec![0; PATH_WORDS]);
+    let mut words = vec![0; library::BNV_SHOW_WORDS as usize];
+    let bytes: Vec<u8> = program.iter().chain(lemmas).flat_map(|w| w.to_le_bytes()).collect();
     let mut state = show.state.clone();
     vec![
         ("nothing", on_a_thread(|| { black_box(()); })),
@@ -56,6 +59,7 @@ pub fn used(show: &Show) -> Vec<(&'static str, usize)> {
         ("step", on_a_thread(move || { black_box(library::step(program, 0, &mut state)); })),
         ("ask", on_a_thread(|| { black_box(library::ask(program, lemmas, k)); })),
         ("judge", on_a_thread(move || { black_box(library::judge(program, lemmas, &mut g, &mut p)); })),
+        ("show", on_a_thread(move || { black_box(library::show(&bytes, &mut words, &mut i, &mut r)); })),
         ("judge, other", on_a_thread(move || { black_box(other::judge(program, lemmas, &mut h, &mut q)); })),
     ]
 }
