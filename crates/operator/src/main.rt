@@ -20,7 +20,15 @@ fn room() -> [u8; 65537]
 
 // Waits for 10 ms; a signal may end that early.
 fn wait() {
-    libc::sched_yield();
+    let asked = libc::types::timespec {
+        tv_sec: 0,
+        tv_nsec: 10000000,
+    };
+    let mut left = libc::types::timespec {
+        tv_sec: 0,
+        tv_nsec: 0,
+    };
+    libc::nanosleep(&asked, &mut left);
 }
 
 // Reads standard input to its end, or until the bytes are full. Where that fails, it says why.
