@@ -2,9 +2,11 @@
 --
 -- Within     — a whole stream has no more bytes than there is room for
 -- linesAfter — the lines that are printed once reading has ended so: the report of the bytes that were read, if they are the whole input; else nothing
-use mathlib.Core.List.{List, []}
+-- Leads      — a list begins with a text of so many bytes, and is as it was behind it
+use mathlib.Core.Path.{_≡_}
+use mathlib.Core.List.{List, [], _++_}
 use Prim.Native.Nat.{ℕ, _≤_}
-use lib.ListN.{take}
+use lib.ListN.{length, take, drop}
 use Rattle.streams.specs.declared.Progress.{Progress}
 use Rattle.streams.specs.declared.Progress.the-variants.{Going, Whole, Broken}
 use Rattle.report.specs.Report.{written}
@@ -18,3 +20,6 @@ abbrev pub linesAfter : Progress → List ℕ → List ℕ → List ℕ
 linesAfter (Going done tries) bytes lines = []
 linesAfter (Whole n) bytes lines = written (take n bytes) lines
 linesAfter Broken bytes lines = []
+
+abbrev pub Leads : List ℕ → ℕ → List ℕ → List ℕ → Type 0
+Leads text n before after = (after ≡ text ++ drop (length text) before) × (n ≡ length text)

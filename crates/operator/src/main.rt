@@ -2,9 +2,8 @@
 // `report`, whether the input was read whole that of `streams`. It reads one byte more than a show may have, and of a longer input no more than
 // that. Where reading or writing fails, it says so on standard error, and no verdict is printed on a part of the input.
 ghost use mathlib.Core.Path.{_≡_};
-ghost use mathlib.Core.List.{_++_};
-ghost use lib.ListN.{length, drop};
-ghost use Rattle.operator.specs.Program.{Within, linesAfter};
+ghost use lib.ListN.{length};
+ghost use Rattle.operator.specs.Program.{Within, linesAfter, Leads};
 use libc::STDERR_FILENO;
 use libc::STDIN_FILENO;
 use libc::STDOUT_FILENO;
@@ -61,9 +60,7 @@ fn read_whole(bytes: &mut [u8]) -> Progress
 // The lines for the bytes that were read; none where reading did not come to the end of the input.
 fn put_lines(end: Progress, bytes: &[u8], lines: &mut [u8]) -> usize
     requires { ⌜ Within end (length (now bytes)) ⌝ }
-    ensures { λ r. ⌜ (now (lines .exit)
-        ≡ linesAfter end (now (bytes .entry)) (now (lines .entry)) ++ drop (length (linesAfter end (now (bytes .entry)) (now (lines .entry)))) (now (lines .entry)))
-        × (r ≡ length (linesAfter end (now (bytes .entry)) (now (lines .entry)))) ⌝ }
+    ensures { λ r. ⌜ Leads (linesAfter end (now (bytes .entry)) (now (lines .entry))) r (now (lines .entry)) (now (lines .exit)) ⌝ }
 {
     match end {
         Progress::Going(_, _) => 0,

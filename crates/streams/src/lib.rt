@@ -87,7 +87,7 @@ pub fn next(way: Way, room: usize, progress: Progress, answer: Answer) -> Progre
     match progress {
         Progress::Going(done, tries) => match answer {
             Answer::Moved(n) => after_moved(way, room, done, tries, n),
-            Answer::Failed(errno) => after_failed(done, tries, errno),
+            Answer::Failed(error) => after_failed(done, tries, error),
         },
         Progress::Whole(_) => Progress::Broken,
         Progress::Broken => Progress::Broken,
