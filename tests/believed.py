@@ -20,11 +20,12 @@ CALLS = {
     "ask": ["ask"],
     "judge": ["judge"],
     "show": ["show"],
+    "streams": ["next", "answered"],
     "view": ["new", "successor", "successor_at", "successor_of"],
     "report": ["report"],
     "exports": [],
 }
-PROMISES = ("promises", "proofs", "Promises")
+PROMISES = [("promises", "proofs", "Promises"), ("promises", "proofs", "Further")]
 README = ROOT / "README.md"
 BEGIN, END = "<!-- begin: tests/believed.py --write -->", "<!-- end -->"
 
@@ -37,8 +38,9 @@ class Believed:
         roots = set()
         for crate, functions in CALLS.items():
             roots |= crates.contracts(crate, functions)
-        for promise in crates.file(PROMISES).definitions:
-            roots |= crates.named_by(promise, with_body=False)
+        for page in PROMISES:
+            for promise in crates.file(page).definitions:
+                roots |= crates.named_by(promise, with_body=False)
         reached = crates.reached(roots)
         self.types = sorted("::".join(d[1:]) for d in reached if isinstance(d, tuple))
         files = {d.file for d in reached if not isinstance(d, tuple)}
