@@ -7,7 +7,7 @@
 --   streams::next(way, room, at, a)     r ≡ next way room at a                                                      crates/streams/src/lib.rt
 use mathlib.Core.Path.{_≡_}
 use mathlib.Core.List.{List}
-use Prim.Native.Nat.{ℕ, _%_}
+use Prim.Native.Nat.{ℕ, _+_, _%_, _≤_}
 use lib.ListN.{length}
 use Rattle.judge.specs.declared.Judged.the-variants.{Safe as IsSafe}
 use Rattle.little.specs.LittleEndian.{bytesOf, Below}
@@ -16,7 +16,7 @@ use Rattle.show.specs.Show.{wordsIn, show, SafeShow}
 use Rattle.streams.specs.declared.Way.{Way}
 use Rattle.streams.specs.declared.Answer.{Answer}
 use Rattle.streams.specs.declared.Progress.the-variants.{Going, Whole}
-use Rattle.streams.specs.Streams.{streamed, WholeOf}
+use Rattle.streams.specs.Streams.{mostTries, streamed, WholeOf}
 
 -- the words in a show's bytes are those whose bytes they are, and the other way
 pub words-in-bytes : (ws : List ℕ) → Below 4294967296 ws → wordsIn (bytesOf ws) ≡ ws
@@ -32,3 +32,7 @@ show-safe b wl gl pl l m n e = Rattle.show.proofs.Safe.show-safe b gl pl l m n 
 -- a stream that is taken for whole was read or written whole: whatever the calls answered, none of them failed but with a passing error, few of these, and a read came to the end
 pub whole-stream : (way : Way) (room n : ℕ) (answers : List Answer) → streamed way room (Going 0 0) answers ≡ Whole n → WholeOf way room n answers
 whole-stream = Rattle.streams.proofs.Whole.whole-stream
+
+-- and it comes to an end: one that is still going has had no more answers than there are bytes and tries
+pub ends-soon : (way : Way) (room done tries : ℕ) (answers : List Answer) → streamed way room (Going 0 0) answers ≡ Going done tries → length answers ≤ room + mostTries
+ends-soon = Rattle.streams.proofs.Whole.ends-soon
