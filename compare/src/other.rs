@@ -1,7 +1,7 @@
-//! The independent code behind the same seven calls. Fields that an answer does not use are 0. It has no call from bytes: those of
-//! `show` are made words and split here, by hand.
+//! The independent code behind the same seven calls. Fields that an answer does not use are 0.
 
 use bulanevior::raw::*;
+use independent::bytes::Shown;
 use independent::{Asked, Judged, Stepped};
 
 /// Records of zeros, which are no answers.
@@ -51,7 +51,11 @@ pub fn ask(words: &[u32], lemmas: &[u32], k: usize) -> BnvAsk {
 }
 
 pub fn judge(words: &[u32], lemmas: &[u32], graph: &mut [u32], path: &mut [u32]) -> BnvJudge {
-    match independent::judge(words, lemmas, graph, path) {
+    judged(independent::judge(words, lemmas, graph, path))
+}
+
+fn judged(answer: Judged) -> BnvJudge {
+    match answer {
         Judged::Safe { nodes, edges } => BnvJudge { verdict: BNV_SAFE, nodes, edges, ..NO_JUDGE },
         Judged::MayForbid { node, bad, nodes, edges } => {
             BnvJudge { verdict: BNV_MAY_FORBID, node, place: bad, nodes, edges, ..NO_JUDGE }
@@ -74,19 +78,12 @@ pub fn judge(words: &[u32], lemmas: &[u32], graph: &mut [u32], path: &mut [u32])
 
 pub fn show(bytes: &[u8], words: &mut [u32], graph: &mut [u32], path: &mut [u32]) -> BnvShow {
     let none = |answer| BnvShow { answer, logic: 0, lemmas: 0, judged: NO_JUDGE };
-    if words.len() < 16_384 {
-        return none(BNV_WORDS_SHORT);
+    match independent::bytes::show(bytes, words, graph, path) {
+        Shown::WordsShort => none(BNV_WORDS_SHORT),
+        Shown::TooLong => none(BNV_TOO_LONG),
+        Shown::OddBytes => none(BNV_ODD_BYTES),
+        Shown::Judged { logic, lemmas, answer } => BnvShow { answer: BNV_JUDGED, logic, lemmas, judged: judged(answer) },
     }
-    if bytes.len() > 65_536 {
-        return none(BNV_TOO_LONG);
-    }
-    if bytes.len() % 4 != 0 {
-        return none(BNV_ODD_BYTES);
-    }
-    let show: Vec<u32> = bytes.chunks_exact(4).map(|b| u32::from_le_bytes([b[0], b[1], b[2], b[3]])).collect();
-    words[..show.len()].copy_from_slice(&show);
-    let (logic, lemmas) = show.split_at(show.iter().position(|w| w >> 28 == 15).map_or(show.len(), |at| at + 1));
-    BnvShow { answer: BNV_JUDGED, logic: logic.len(), lemmas: lemmas.len(), judged: judge(logic, lemmas, graph, path) }
 }
 
 pub fn successor(graph: &[u32], nodes: usize, actions: usize, node: usize, action: usize) -> BnvSuccessor {

@@ -1,5 +1,6 @@
 //! An independent implementation of document 01, "Show logic, lemmas and the abstract state graph".
 
+pub mod bytes;
 pub mod judge;
 pub mod lemma;
 pub mod program;
