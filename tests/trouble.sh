@@ -104,6 +104,14 @@ say "program: nobody reads: ended by SIGPIPE" $?
 troubled "judge: nobody reads" "cannot write to standard output" 'feed gone -- ./judge $fade'
 troubled "judge: a full non-blocking pipe" "cannot write to standard output" 'feed full -- ./judge $fade'
 told "program: a full non-blocking pipe that is read after a while" shows/fade.expected 0 'feed drained -- $program <$fade'
+# A file that may have 1,024 bytes takes a part of the longest path's line, which cannot be taken back: it has no newline.
+export limited='trap "" XFSZ; ulimit -f 1;'
+run now 'eval "$limited"; $program <shows/counter.words >"$room/part"'
+[[ $(<"$room/now.err") == "bulanevior: the line on standard output is not whole: File too large" ]] && [ -n "$(tail -c 1 "$room/part")" ]
+say "program: a part of the line" $?
+run now 'eval "$limited"; ./judge shows/counter.words >"$room/part"'
+[[ $(<"$room/now.err") == "bulanevior: cannot write to standard output" ]] && [ "$(<"$room/now.status")" = 2 ] && [ -n "$(tail -c 1 "$room/part")" ]
+say "judge: a part of the line" $?
 both_told "standard error closed" shows/fade.expected 0 'RUN <$fade 2>&-'
 run now './judge / 2>&-'
 [ ! -s "$room/now.out" ] && [ "$(<"$room/now.status")" = 2 ]
