@@ -30,6 +30,12 @@ fn wait() {
     libc::nanosleep(&asked, &mut left);
 }
 
+fn pause(wanted: bool) {
+    if wanted {
+        wait();
+    }
+}
+
 // Reads standard input to its end, or until the bytes are full. Where that fails, it says why.
 fn read_whole(bytes: &mut [u8]) -> Progress
     ensures { λ r. ⌜ Within r (length (now (bytes .exit))) ⌝ }
@@ -42,9 +48,7 @@ fn read_whole(bytes: &mut [u8]) -> Progress
         let answer = streams::answered(got, os::errno());
         match streams::next(Way::Read, room, Progress::Going(done, tries), answer) {
             Progress::Going(more, again) => {
-                if again > tries {
-                    wait();
-                }
+                pause(again > tries);
                 done = more;
                 tries = again;
             }
@@ -96,9 +100,7 @@ fn write_whole(lines: &[u8]) {
         let answer = streams::answered(got, os::errno());
         match streams::next(Way::Write, room, Progress::Going(done, tries), answer) {
             Progress::Going(more, again) => {
-                if again > tries {
-                    wait();
-                }
+                pause(again > tries);
                 done = more;
                 tries = again;
             }

@@ -58,20 +58,14 @@ next-requires c κs = search needs
 enum-known-more : tie.Need-enum-known-more Inv-loop μ-loop
 enum-known-more c = search needs
 
-wait-requires : tie.Need-wait-requires Inv-loop μ-loop
-wait-requires c κs = search needs
+pause-requires : tie.Need-pause-requires Inv-loop μ-loop
+pause-requires c κs = search needs
 
 loop-less : tie.Need-loop-less Inv-loop μ-loop
-loop-less c = omega (arith, gone (c .before .before .before))
+loop-less c = omega (arith, gone (c .before .before))
 
 loop-again : tie.Need-loop-again Inv-loop μ-loop
-loop-again c = let g = gone (c .before .before .before) in (kept (c .before .before .before .before .before .before .before .before .before), g .1, g .2)
-
-loop-less-2 : tie.Need-loop-less-2 Inv-loop μ-loop
-loop-less-2 c = omega (arith, gone (c .before .before))
-
-loop-again-2 : tie.Need-loop-again-2 Inv-loop μ-loop
-loop-again-2 c = let g = gone (c .before .before) in (kept (c .before .before .before .before .before .before .before .before), g .1, g .2)
+loop-again c = let g = gone (c .before .before) in (kept (c .before .before .before .before .before .before .before .before), g .1, g .2)
 
 enum-known-n : tie.Need-enum-known-n Inv-loop μ-loop
 enum-known-n c = search needs
@@ -116,11 +110,9 @@ read-whole-spec =
     answered-requires
     next-requires
     enum-known-more
-    wait-requires
+    pause-requires
     loop-less
     loop-again
-    loop-less-2
-    loop-again-2
     enum-known-n
     same-length
     returns

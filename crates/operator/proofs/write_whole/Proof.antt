@@ -54,20 +54,14 @@ next-requires c κs = search needs
 enum-known-more : tie.Need-enum-known-more Inv-loop μ-loop
 enum-known-more c = search needs
 
-wait-requires : tie.Need-wait-requires Inv-loop μ-loop
-wait-requires c κs = search needs
+pause-requires : tie.Need-pause-requires Inv-loop μ-loop
+pause-requires c κs = search needs
 
 loop-less : tie.Need-loop-less Inv-loop μ-loop
-loop-less c = omega (arith, gone (c .before .before .before))
+loop-less c = omega (arith, gone (c .before .before))
 
 loop-again : tie.Need-loop-again Inv-loop μ-loop
-loop-again c = let g = gone (c .before .before .before) in (g .1, g .2)
-
-loop-less-2 : tie.Need-loop-less-2 Inv-loop μ-loop
-loop-less-2 c = omega (arith, gone (c .before .before))
-
-loop-again-2 : tie.Need-loop-again-2 Inv-loop μ-loop
-loop-again-2 c = let g = gone (c .before .before) in (g .1, g .2)
+loop-again c = let g = gone (c .before .before) in (g .1, g .2)
 
 enum-told : tie.Need-enum-told Inv-loop μ-loop
 enum-told c = search needs
@@ -100,11 +94,9 @@ write-whole-spec =
     answered-requires
     next-requires
     enum-known-more
-    wait-requires
+    pause-requires
     loop-less
     loop-again
-    loop-less-2
-    loop-again-2
     enum-told
     returns-2
     enum-told-2
