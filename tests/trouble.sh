@@ -59,7 +59,7 @@ both_told() { # NAME EXPECTED STATUS COMMAND
 # The usage: on standard error, with the status 2.
 misused() { # NAME COMMAND
     run now "$2"
-    [ ! -s "$room/now.out" ] && [[ $(<"$room/now.err") == "Usage: judge [FILE]"* ]] && [ "$(<"$room/now.status")" = 2 ]
+    [ ! -s "$room/now.out" ] && [[ $(<"$room/now.err") == "Usage: judge [--] [FILE]"* ]] && [ "$(<"$room/now.status")" = 2 ]
     say "$1" $?
 }
 
@@ -76,9 +76,15 @@ troubled "program: standard input closed" "cannot read standard input: Bad file 
 troubled "judge: standard input closed" "standard input is closed" './judge <&-'
 troubled "judge: standard input closed, for -" "standard input is closed" './judge - <&-'
 both_troubled "Fade, and then a read that fails" "cannot read standard input: Connection reset by peer" 'feed reset $fade -- RUN'
+for name in /dev/stdin /dev/fd/0 /proc/self/fd/0; do
+    troubled "judge: standard input closed, as $name" "$name is a directory" "./judge $name <&-"
+done
 troubled "judge: a directory" "shows is a directory" './judge shows'
+troubled "judge: a name for bash alone" "cannot read /dev/tcp/127.0.0.1/1" './judge /dev/tcp/127.0.0.1/1'
+troubled "judge: a name with a newline" "cannot read \$'a\\nb'" './judge "$(printf "a\nb")"'
 troubled "judge: no such file" "cannot read $room/none" './judge "$room/none"'
-install -m 0 "$fade" "$room/shut"
+install -m 0 "$fade" "$room/shut" && [ -e "$room/shut" ]
+say "a file that may not be read is there" $?
 if [ -r "$room/shut" ]; then
     echo "trouble: a file that may not be read: left out, this user may read every file"
 else
@@ -117,21 +123,39 @@ run now './judge / 2>&-'
 [ ! -s "$room/now.out" ] && [ "$(<"$room/now.status")" = 2 ]
 say "judge: trouble with standard error closed" $?
 
+run now 'ulimit -f 0; ./judge $fade >"$room/part"' # nor may the file of standard error
+[ "$(<"$room/now.status")" = 2 ] && [ ! -s "$room/part" ]
+say "judge: a file that may have no byte" $?
+
+# ---- what the environment has for bash
+echo 'echo SAFE nodes 9 edges 9' >"$room/startup"
+for setting in SHELLOPTS=noexec SHELLOPTS=onecmd SHELLOPTS=errexit SHELLOPTS=errexit:pipefail SHELLOPTS=posix POSIXLY_CORRECT=1 BASH_ENV=$room/startup \
+    'BASH_FUNC_exec%%=() { return 0; }' 'BASH_FUNC_printf%%=() { return 0; }' BASHOPTS=nocasematch CDPATH=/ GREP_OPTIONS=-v; do
+    told "judge: $setting" shows/bump.expected 1 "env '$setting' ./judge shows/bump.words"
+    troubled "judge: $setting, and no such file" "cannot read $room/none" "env '$setting' ./judge \$room/none"
+done
+troubled "judge: no tool on the PATH" "dirname or readlink is not on the PATH" 'PATH=/nonexistent ./judge $fade'
+
 # ---- arguments
 misused "judge: a terminal on standard input" 'feed tty -- ./judge'
 misused "judge: an unknown option" './judge --verbose'
 misused "judge: two files" './judge $fade $house'
 misused "judge: an empty name" './judge ""'
+misused "judge: --help behind a file" './judge shows/bump.words --help'
+misused "judge: --help before a file" './judge --help shows/bump.words'
+misused "judge: --version before a file" './judge --version shows/bump.words'
+cp shows/bump.words "$room/--help"
+told "judge: a file named --help" shows/bump.expected 1 'judge=$PWD/judge; cd $room; $judge -- --help'
 told "judge: --" shows/fade.expected 0 './judge -- $fade'
 run now './judge --help'
-[[ $(<"$room/now.out") == "Usage: judge [FILE]"*"Status: 0  SAFE"* ]] && [ ! -s "$room/now.err" ] && [ "$(<"$room/now.status")" = 0 ]
+[[ $(<"$room/now.out") == "Usage: judge [--] [FILE]"*"Status: 0  SAFE"* ]] && [ ! -s "$room/now.err" ] && [ "$(<"$room/now.status")" = 0 ]
 say "judge: --help" $?
 sed -n 's/^version = "\(.*\)"$/bulanevior \1/p' wrapper/Cargo.toml >"$room/version"
 told "judge: --version" "$room/version" 0 './judge --version'
 troubled "judge: --help with no space" "cannot write to standard output" './judge --help >/dev/full'
 
 # ---- a program that prints something else, in a tree of its own
-export tree=$room/tree
+export tree=$room/tree tools=$room/tools
 mkdir -p "$tree/target/bin" "$tree/crates/one" "$tree/wrapper"
 cp judge "$tree/judge"
 touch "$tree/crates.txt"
@@ -156,23 +180,26 @@ faked "a verdict with something on standard error" 'echo "SAFE nodes 1 edges 2";
 faked "a verdict and a status" 'echo "SAFE nodes 1 edges 2"; exit 1'
 faked "a verdict and then a signal" 'echo "SAFE nodes 1 edges 2"; kill -SEGV $$'
 faked "a signal" 'kill -KILL $$'
+faked "a byte 0 in the line" 'printf "SAFE nodes 1\\0 edges 2\\n"'
+faked "small letters" 'echo "safe nodes 1 edges 2"'
 printf 'FORBID node 3 bad 0\nPATH 1 0 12\n' >"$room/finding"
 fake "cat $room/finding"
 told "judge: a finding" "$room/finding" 1 '$tree/judge $fade'
 
 # ---- building, with a stand-in for rt that notes each call
-tools=$room/tools
 mkdir "$tools" "$room/rt"
-for tool in bash dirname readlink find mkdir mv sed cat chmod; do
+for tool in bash dirname readlink find mkdir mv sed cat chmod tr touch rm sleep; do
     ln -s "$(command -v "$tool")" "$tools/$tool"
 done
 cat >"$room/rt/rt" <<'END'
 #!/bin/bash
+[ "$*" != --version ] || { echo "the kit"; exit; }
 echo "$* in $PWD" >>"$room/calls"
 [ -z "$(cat)" ] || echo "standard input is not empty" >>"$room/calls"
 echo "rt: on standard output"
 echo "rt: on standard error" >&2
 [ ! -e "$room/fails" ] || exit 1
+[ ! -e "$room/edits" ] || { sleep 0.1; touch crates/one/code; sleep 0.1; rm "$room/edits"; }
 mkdir -p target/bin
 [ -e "$room/keeps" ] || printf '#!/bin/bash\necho "SAFE nodes 7 edges 7"\n' >target/bin/operator
 chmod +x target/bin/operator
@@ -194,7 +221,17 @@ older() {
     touch -d '2 seconds ago' "$tree/target/bin/operator" "$tree/target/judge.stamp" 2>/dev/null
 }
 
-rm -rf "$tree/target"
+troubled "judge: find fails" "cannot tell whether the program is older than its sources" 'mkdir $room/nofind; ln -s $tools/* $room/nofind; rm $room/nofind/find; PATH=$room/nofind $tree/judge $fade'
+mv "$tree/crates" "$room/crates"
+touch "$tree/crates.txt"
+told "judge: a copy without crates/ does not build" "$room/finding" 1 '$tree/judge $fade'
+mv "$tree/target" "$room/target"
+troubled "judge: neither program nor crates/" "there is no program, and no crates/" '$tree/judge $fade'
+mv "$room/crates" "$tree/crates"
+mkdir "$tree/.ci"
+echo "another kit" >"$tree/.ci/kit"
+troubled "judge: rt is another kit" "the program has to be built, and rt is not the kit" 'PATH=$room/rt:$tools $tree/judge $fade'
+echo "the kit" >"$tree/.ci/kit"
 troubled "judge: not built, and no rt" "the program has to be built, and rt is not on the PATH" 'PATH=$room/tools $tree/judge $fade'
 built "judge: the first build" 1 1
 built "judge: built, and nothing newer" 1 0
@@ -212,6 +249,9 @@ say "judge: the build fails, and the old program is not run" $?
 troubled "judge: sources are newer, and no rt" "the program has to be built, and rt is not on the PATH" 'PATH=$room/tools $tree/judge $fade'
 rm "$room/fails"
 built "judge: built again after a build that failed" 5 1
+older && touch "$tree/crates/one/code" "$room/edits"
+built "judge: a source is edited while it builds" 6 1
+built "judge: so it builds again" 7 1
 
 # ---- what took 5 seconds
 wait

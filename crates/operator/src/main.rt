@@ -78,7 +78,7 @@ fn tell_unwritten(got: isize, done: usize) {
     if got >= 0 {
         io::write_all(
             STDERR_FILENO,
-            b"bulanevior: cannot write to standard output: it takes no byte\n",
+            b"bulanevior: the line on standard output is not whole: it takes no byte\n",
         );
     } else if done == 0 {
         os::fail(b"bulanevior: cannot write to standard output");
