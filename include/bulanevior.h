@@ -26,9 +26,10 @@
  *
  * Lengths, counts, indices and places are 64-bit numbers, counted from 0. A field that an answer does not use is 0.
  *
- * No answer is 0, in `answer` or in `verdict`: a record of zeros, or one that no call has filled, permits nothing. Ask for the answer
- * that permits (`== BNV_SAFE`), never for the absence of another; a number that is named nowhere below permits nothing either. It means
- * that this header and the library are of different versions: CHANGELOG.md says which numbers moved.
+ * No answer is 0, in `answer` or in `verdict`: a record of zeros permits nothing. Begin with `BnvJudge j = {0};`, so that one which no
+ * call has filled is such a record. Ask for the answer that permits (`== BNV_SAFE`), never for the absence of another; a number that
+ * is named nowhere below permits nothing either. It means that this header and the library are of different versions: CHANGELOG.md
+ * says which numbers moved.
  */
 #ifndef BULANEVIOR_H
 #define BULANEVIOR_H
@@ -79,7 +80,8 @@ _Static_assert(sizeof(size_t) == 8, "64-bit numbers only");
 /*
  * ---- Refusals: the number in `refusal`; what `value` holds stands behind it. 0 in `refusal` is no refusal.
  *
- * A refusal leaves every lent list as it was, but BNV_REFUSED_NODES, which zeroes the first BNV_GRAPH_WORDS words of the graph list.
+ * A refusal leaves every lent list as it was, with two exceptions: BNV_REFUSED_NODES zeroes the first BNV_GRAPH_WORDS words of the
+ * graph list, and of bnv_show every refusal leaves the show's words at the front of the words list.
  */
 
 #define BNV_REFUSED_SHORT 1u  /* a lent list is too short: 0 the graph list, also the one of bnv_successor; 1 the path list */

@@ -1,4 +1,5 @@
-/* Each function of the static library, called from C on Fade; the stack that each takes; empty lists with null pointers; every lent word. */
+/* Each function of the static library, called from C on Fade; the stack that each takes; empty lists with null pointers; every lent word;
+   and the header's two macros. */
 #define _XOPEN_SOURCE 700
 #include <stdio.h>
 #include <stdlib.h>
@@ -79,6 +80,30 @@ static int graph_of_fade(void)
         if (path[i] != 0)
             return 0;
     return left(BNV_GRAPH_WORDS, BNV_PATH_WORDS);
+}
+
+/* Kind and payload of words that tell every bit apart; of an argument that is an expression, or signed; in an expression. */
+static void kinds(void)
+{
+    static const struct {
+        uint32_t word, kind, payload;
+    } all[] = {
+        {0, 0, 0},
+        {0xFFFFFFFF, 15, 0x0FFFFFFF},
+        {0xF0000000, 15, 0},
+        {0x0FFFFFFF, 0, 0x0FFFFFFF},
+        {0xA5A5A5A5, 10, 0x05A5A5A5},
+        {0x5A5A5A5A, 5, 0x0A5A5A5A},
+    };
+    for (size_t i = 0; i < sizeof all / sizeof *all; i++)
+        CHECK(BNV_KIND(all[i].word) == all[i].kind && BNV_PAYLOAD(all[i].word) == all[i].payload);
+    for (unsigned bit = 0; bit < 28; bit++)
+        CHECK(BNV_KIND(1u << bit) == 0 && BNV_PAYLOAD(1u << bit) == 1u << bit);
+    for (unsigned bit = 28; bit < 32; bit++)
+        CHECK(BNV_KIND(1u << bit) == 1u << (bit - 28) && BNV_PAYLOAD(1u << bit) == 0);
+    CHECK(BNV_KIND(0x10000000u | 0x20000005u) == 3 && BNV_PAYLOAD(0x10000002u | 0x20000005u) == 7);
+    CHECK(BNV_KIND(-1) == 15 && BNV_PAYLOAD(-1) == 0x0FFFFFFF);
+    CHECK(16 * BNV_KIND(0x30000000u) == 48 && 32 * BNV_PAYLOAD(0x18000001u) == 32);
 }
 
 static void check(void)
@@ -277,7 +302,7 @@ static size_t taken(void (*part)(void))
 
 int main(void)
 {
-    void (*parts[])(void) = {check, action_part, step, ask, judge, judge_refused, show_refused, show};
+    void (*parts[])(void) = {kinds, check, action_part, step, ask, judge, judge_refused, show_refused, show};
     size_t most = 0, last = 0;
     for (size_t i = 0; i < sizeof parts / sizeof *parts; i++) {
         last = taken(parts[i]);

@@ -1,10 +1,14 @@
 #!/usr/bin/env python3
-"""Each must-fail edit is refused because a fact no longer holds, and not because a name is missing.
+"""Each must-fail edit is refused because a fact no longer holds, and not because a name is missing; and docs/CLAIMS.md names edits that exist.
 
-    tests/edits.py [NAME..]      reads what `rt ci` or `rt must-fail` left under target/must-fail/
+    tests/edits.py [NAME..]      reads what `rt ci` or `rt must-fail` left under target/must-fail/; with names, of these crates alone
+    tests/edits.py --claims      only docs/CLAIMS.md
 
 Prints each edit with the function and the need of the first error. An edit whose first error is a name that cannot be named only made the proof
 unfit for the code; one that never reached the prover is no program.
+
+In docs/CLAIMS.md an edit is a name with an underscore, in backticks, behind the word "edit" or "edits" in the same cell and sentence. The crates
+in parentheses right behind it have to have it, or else any crate. Prints each that does not exist.
 """
 import re
 import sys
@@ -14,6 +18,9 @@ from pathlib import Path
 ROOT = Path(__file__).resolve().parent.parent
 ERROR = re.compile(r"proofs/(?:(\S+)/)?\w+\.antt:\d+:\d+: error: (?:`([^`]*)`: )?(.*)")
 MISSING = re.compile(r"that can be named from here|is not in scope|has no field|is no library")
+
+NAMED = re.compile(r"\bedits? ([^|;.\n]*)")
+NAME = re.compile(r"`(\w*_\w*)`(?: \(([\w, ]+)\))?")
 
 
 def first_error(log):
@@ -40,12 +47,31 @@ def judged(edit):
     return f"{crate}/{label}: {function}, {need}", True
 
 
+def claimed(edits):
+    """How many edits docs/CLAIMS.md names, and a line for each that does not exist."""
+    there = {(edit.parts[-3], edit.stem) for edit in edits}
+    named = [found.groups() for cell in NAMED.findall((ROOT / "docs/CLAIMS.md").read_text()) for found in NAME.finditer(cell)]
+    lines = []
+    for label, crates in named:
+        lacking = [c for c in crates.split(", ") if (c, label) not in there] if crates else []
+        if lacking or all(label != other for _, other in there):
+            lines.append(f"docs/CLAIMS.md names the edit {label}, which does not exist" + (f" in {', '.join(lacking)}" if lacking else ""))
+    return len(named), lines
+
+
 def main(names):
     edits = sorted((ROOT / "crates").glob("*/must-fail/*.edit"))
+    good = True
+    if not names or names == ["--claims"]:
+        named, absent = claimed(edits)
+        print("\n".join([*absent, f"docs/CLAIMS.md names edits {named} times, {len(absent)} of them do not exist"]))
+        good = named > 0 and not absent
+    if names == ["--claims"]:
+        return 0 if good else 1
     lines = [judged(e) for e in edits if not names or e.parts[-3] in names]
-    for line, good in lines:
+    for line, _ in lines:
         print(line)
-    return 0 if lines and all(good for _, good in lines) else 1
+    return 0 if good and lines and all(refused for _, refused in lines) else 1
 
 
 if __name__ == "__main__":

@@ -104,7 +104,26 @@ for program in "${shows[@]}"; do
         status=0
         "$program" "$file" >&- 2>"$room/err" || status=$?
         trouble "$file to a closed output" "$program" "$status"
+        status=0
+        "$program" "$file" 1</dev/null 2>"$room/err" || status=$?
+        trouble "$file to an output that is open for reading only" "$program" "$status"
     done
+    # A closed standard input is trouble where it is the file; an empty one is a show without words, and another file is judged.
+    for file in /dev/stdin /dev/fd/0 /proc/self/fd/0; do
+        status=0
+        "$program" "$file" <&- >"$room/out" 2>"$room/err" || status=$?
+        trouble "$file closed" "$program" "$status"
+        status=0
+        "$program" "$file" </dev/null >"$room/out" 2>"$room/err" || status=$?
+        [ "$status" -eq 3 ] && grep -q '(2 AT 0)$' "$room/out" || fail "$program $file: empty: status $status"
+    done
+    status=0
+    "$program" shows/fade.words <&- >"$room/out" 2>"$room/err" || status=$?
+    [ "$status" -eq 0 ] && grep -q '^safe: nodes 1, edges 2$' "$room/out" || fail "$program: standard input closed: status $status"
+    : >"$room/out"
+    status=0
+    "$program" shows/fade.words <&- >&- 2>"$room/err" || status=$?
+    trouble "both closed" "$program" "$status"
     status=0
     "$program" >"$room/out" 2>"$room/err" || status=$?
     trouble "no file" "$program" "$status"

@@ -5,13 +5,18 @@ Compared are every record's fields and every function's parameters (names, types
 a pointer and a length. The header and raw.rs have the same constants; lib.rt has the answers, and the code below it kinds, refusals and limits. The
 version stands in the header, in wrapper/Cargo.toml and at the head of CHANGELOG.md. Prints each difference.
 
-Then the comparison itself is tried: each two neighbouring fields and each two neighbouring parameters exchanged, each result and each constant
-changed, in each text in turn, has to be a difference.
+The form is looked at too. In the header nothing stands but records, functions, constants and what SHELL names, and a constant that is an
+expression is in parentheses. In the other two every record is `repr(C)`, every constant is a u32, and nothing stands that STRAYS names; in lib.rt
+every function is `no_mangle`.
+
+Then all this is tried: each two neighbouring fields and each two neighbouring parameters exchanged, each result and each constant changed, in
+each text in turn, and each change of FORMS at each of its places, has to be a difference.
 """
 import re
 import sys
 
 from functools import lru_cache
+from itertools import accumulate, zip_longest
 from pathlib import Path
 
 ROOT = Path(__file__).resolve().parent.parent
@@ -30,6 +35,57 @@ BELOW = {
 }
 # The header makes the one out of others; the other is no number.
 NOT_BELOW = {"BNV_GRAPH_WORDS", "BNV_VERSION"}
+# What stands in the header around records, functions and constants, which are "..".
+SHELL = """\
+#ifndef BULANEVIOR_H
+#define BULANEVIOR_H
+#include <stddef.h>
+#include <stdint.h>
+#ifdef __cplusplus
+extern "C" {
+static_assert(sizeof(size_t) == 8, "64-bit numbers only");
+#else
+_Static_assert(sizeof(size_t) == 8, "64-bit numbers only");
+#endif
+..
+#define BNV_KIND(word) ((uint32_t)(word) >> 28)
+#define BNV_PAYLOAD(word) ((uint32_t)(word) & 0x0FFFFFFFu)
+..
+#ifdef __cplusplus
+}
+#endif
+#endif""".split("\n")
+# What may not stand in the other texts: attributes but these, another ABI than C, comments that the reader does not know, and a `Default`.
+DERIVED = r"(?:(?:Clone|Copy|Debug|PartialEq|Eq)(?:, )?)+"
+STRAYS = {
+    RATTLE: r'#(?!\[repr\(C\)\]|\[no_mangle\]).*|\bextern\b(?! "C" fn bnv_).*|/\*.*',
+    RUST: r'#(?!\[repr\(C\)\]|\[derive\(%s\)\]).*|\bextern\b(?! "C" \{).*|/\*.*|\bDefault\b.*' % DERIVED,
+}
+# Changes of form: the text, what stands there, and what stands there afterwards.
+FORMS = [
+    (HEADER, "typedef struct {", "#pragma pack(1)\ntypedef struct {"),
+    (HEADER, "typedef struct {", "#define refusal value\ntypedef struct {"),
+    (HEADER, "typedef struct {", "# define refusal value\ntypedef struct {"),
+    (HEADER, "typedef struct {", "typedef struct __attribute__((packed)) {"),
+    (HEADER, "#define BNV_SAFE 4u", "#define BNV_SAFE 4u\n#undef BNV_SAFE"),
+    (HEADER, "#define BNV_SAFE 4u", "#define BNV_SAFE 4u\n#define BNV_SAFE 4u"),
+    (HEADER, "#define BNV_SAFE 4u", "#define BNV_SAFE 4u /*\n*/ - 1u"),
+    (HEADER, "#define BNV_SAFE 4u", "#define BNV_SAFE 3u + 1u"),
+    (HEADER, "#define BNV_SAFE 4u", "#define BNV_SAFE (3u) + (1u)"),
+    (HEADER, "#define BNV_SAFE 4u", "#ifdef __cplusplus\n#define BNV_SAFE 4u\n#endif"),
+    (HEADER, "(word) >> 28", "(word) >> 27"),
+    (RUST, "#[repr(C)]", "#[repr(packed)]"),
+    (RUST, "#[repr(C)]", "#[repr(C)]\n#[repr(packed)]"),
+    (RUST, "#[repr(C)]", "#[repr(C, packed)]"),
+    (RUST, "derive(Clone", "derive(Default, Clone"),
+    (RUST, 'extern "C"', 'extern "Rust"'),
+    (RUST, "    fn bnv_", '    #[link_name = "bnv_other"]\n    fn bnv_'),
+    (RUST, ": u32 =", ": u64 ="),
+    (RATTLE, ": u32 =", ": u64 ="),
+    (RATTLE, "#[repr(C)]", ""),
+    (RATTLE, "#[no_mangle]", ""),
+    (RATTLE, 'extern "C"', 'extern "Rust"'),
+]
 C_TYPES = {"uint8_t": "u8", "uint32_t": "u32", "int32_t": "i32", "size_t": "usize"}
 
 
@@ -68,6 +124,12 @@ def read_c(name, text):
     return [(item, f"*{'const' if const else 'mut'} {kind}" if star else kind)]
 
 
+def enclosed(text):
+    """Is the whole text in one pair of parentheses?"""
+    depths = list(accumulate({"(": 1, ")": -1}.get(c, 0) for c in text))
+    return depths[-1] == 0 and all(depth > 0 for depth in depths[:-1])
+
+
 @lru_cache(maxsize=8)
 class Text:
     """What one text says. Comments are blanked, so that places stay as they are."""
@@ -78,16 +140,30 @@ class Text:
         comment = r"/\*.*?\*/" if c else r"//[^\n]*"
         self.plain = re.sub(comment, lambda m: re.sub(r"\S", " ", m[0]), source, flags=re.S)
         self.read, self.stop = (read_c, ";") if c else (read_rust, ",")
-        self.records, self.functions, self.results, self.constants = {}, {}, {}, {}
+        self.records, self.functions, self.results, self.constants, self.spans = {}, {}, {}, {}, []
         if c:
             self.take_records(r"typedef struct \{(?P<items>[^}]*)\} (?P<name>\w+);", r"\btypedef\b")
             self.take_functions(r"\b(?P<result>\w+) (?P<name>bnv_\w+)\((?P<items>[^)]*)\);", r"\bbnv_\w+")
             self.take_constants(r"^#define (BNV_\w+)[ \t]+(.*\S)", r"#define BNV_\w+\s")
+            self.compare_shell()
         else:
-            self.take_records(r"#\[repr\(C\)\]\s*(?:#\[[^\]]*\]\s*)?pub struct (?P<name>\w+) \{(?P<items>[^}]*)\}", r"repr\(C\)")
-            before = 'extern "C" ' if name == RATTLE else r"^    "
+            for found in re.finditer(STRAYS[name], self.plain):
+                raise Unread(f"`{found[0]}` may not stand here")
+            self.take_records(r"#\[repr\(C\)\]\s*(?:#\[[^\]]*\]\s*)?pub struct (?P<name>\w+) \{(?P<items>[^}]*)\}", r"\bstruct\b")
+            before = r'#\[no_mangle\]\s*pub extern "C" ' if name == RATTLE else r"^    "
             self.take_functions(before + r"fn (?P<name>bnv_\w+)\((?P<items>[^)]*)\)\s*->\s*(?P<result>\w+)", r"fn bnv_\w+")
-            self.take_constants(r"\bpub const (BNV_\w+): \w+ = ([^;]+);", r"\bconst BNV_")
+            self.take_constants(r"\bpub const (BNV_\w+): u32 = ([^;]+);", r"\bconst BNV_")
+
+    def compare_shell(self):
+        """Around what was read stands SHELL."""
+        rest = self.plain
+        for begin, end in sorted(self.spans, reverse=True):
+            rest = rest[:begin] + "\n..\n" + rest[end:]
+        lines = [" ".join(line.split()) for line in rest.split("\n") if line.strip()]
+        lines = [line for before, line in zip([""] + lines, lines) if not before == line == ".."]
+        for there, wanted in zip_longest(lines, SHELL, fillvalue="the end"):
+            if there != wanted:
+                raise Unread(f"`{there}` stands where `{wanted}` is expected")
 
     def counted(self, what, found, anchor):
         """Nothing was passed over, and nothing is there twice."""
@@ -105,17 +181,20 @@ class Text:
     def take_records(self, pattern, anchor):
         for found in re.finditer(pattern, self.plain):
             self.records[found["name"]] = list(self.items(found["name"], found, self.stop))
+            self.spans.append(found.span())
         self.counted("records", self.records, anchor)
 
     def take_functions(self, pattern, anchor):
         for found in re.finditer(pattern, self.plain, re.M):
             self.functions[found["name"]] = list(self.items(found["name"], found, ","))
             self.results[found["name"]] = found["result"], found.span("result")
+            self.spans.append(found.span())
         self.counted("functions", self.functions, anchor)
 
     def take_constants(self, pattern, anchor):
         for found in re.finditer(pattern, self.plain, re.M):
             self.constants[found[1]] = self.value(found[1], found[2]), found.span(2)
+            self.spans.append(found.span())
         self.counted("constants", self.constants, anchor)
 
     def value(self, name, text):
@@ -126,6 +205,8 @@ class Text:
         text = re.sub(r"\b(\d[\d_]*)u?\b", lambda m: m[1].replace("_", ""), text)
         if not re.fullmatch(r"[\d+*() -]+", text):
             raise Unread(f"{name}: {text}")
+        if self.name == HEADER and not (text.isdigit() or enclosed(text)):
+            raise Unread(f"{name}: {text} is not in parentheses")
         return eval(text)
 
     def changes(self):
@@ -220,6 +301,12 @@ def changes(sources):
             yield name, changed
     for name, _, number, (begin, end) in below(sources):
         yield name, sources[name][:begin] + str(number + 1) + sources[name][end:]
+    for name, old, new in FORMS:
+        places = [found.start() for found in re.finditer(re.escape(old), Text(name, sources[name]).plain)]
+        if not places:
+            sys.exit(f"{name}: `{old}` is not there, so its change cannot be tried")
+        for begin in places:
+            yield name, sources[name][:begin] + new + sources[name][begin + len(old):]
 
 
 def unnoticed(sources):

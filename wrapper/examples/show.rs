@@ -5,6 +5,7 @@
 use bulanevior::*;
 use std::fs::File;
 use std::io::{Read, Write};
+use std::os::fd::AsFd;
 use std::path::Path;
 use std::process::ExitCode;
 use std::sync::atomic::{AtomicBool, Ordering};
@@ -14,20 +15,29 @@ const FINDING: u8 = 1;
 const TROUBLE: u8 = 2;
 const REFUSED: u8 = 3;
 
-/// Was standard output closed when the program began? The runtime opens /dev/null in its place before `main`, and what is
-/// printed would be lost without an error; so this is looked at before that.
-static CLOSED: AtomicBool = AtomicBool::new(false);
+/// Which of standard input and output were closed when the program began? The runtime opens /dev/null in their place before
+/// `main`: /dev/stdin would be an empty show and what is printed would be lost, both without an error. So this is looked at
+/// before that, and `main` closes them again.
+static CLOSED: [AtomicBool; 2] = [AtomicBool::new(false), AtomicBool::new(false)];
+
+extern "C" {
+    fn fcntl(file: i32, command: i32, ...) -> i32;
+    fn close(file: i32) -> i32;
+}
 
 extern "C" fn look() {
-    extern "C" {
-        fn fcntl(file: i32, command: i32, ...) -> i32;
-    }
-    const STANDARD_OUTPUT: i32 = 1;
     const GET_FLAGS: i32 = 3;
-    CLOSED.store(
-        unsafe { fcntl(STANDARD_OUTPUT, GET_FLAGS) } < 0,
-        Ordering::Relaxed,
-    );
+    for (file, closed) in (0..).zip(&CLOSED) {
+        closed.store(unsafe { fcntl(file, GET_FLAGS) } < 0, Ordering::Relaxed);
+    }
+}
+
+fn close_again() {
+    for (file, closed) in (0..).zip(&CLOSED) {
+        if closed.load(Ordering::Relaxed) {
+            unsafe { close(file) };
+        }
+    }
 }
 
 #[used]
@@ -91,13 +101,9 @@ fn text(show: Result<Show, NoShow>, path: &[u32]) -> Result<(String, u8), String
     }
 }
 
+/// Through a file: the runtime's own standard output takes one that is not open for writing for a success.
 fn print(said: &str) -> std::io::Result<()> {
-    if CLOSED.load(Ordering::Relaxed) {
-        return Err(std::io::Error::other("closed"));
-    }
-    let mut out = std::io::stdout().lock();
-    out.write_all(said.as_bytes())?;
-    out.flush()
+    File::from(std::io::stdout().as_fd().try_clone_to_owned()?).write_all(said.as_bytes())
 }
 
 /// The exit status, or the trouble.
@@ -113,6 +119,7 @@ fn run(name: &Path) -> Result<u8, String> {
 }
 
 fn main() -> ExitCode {
+    close_again();
     let mut arguments = std::env::args_os().skip(1);
     let done = match (arguments.next(), arguments.next()) {
         (Some(name), None) => run(Path::new(&name)),

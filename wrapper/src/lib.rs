@@ -41,7 +41,7 @@ pub fn payload(word: u32) -> u32 {
 }
 
 /// Why a call refuses, with the value that is returned with the refusal. A refusal leaves every lent list, but for `Nodes`,
-/// which zeroes the first `GRAPH_WORDS` words of the graph list.
+/// which zeroes the first `GRAPH_WORDS` words of the graph list, and for the words list of `show`, which has the show's words.
 #[derive(Clone, Copy, Debug, PartialEq, Eq)]
 pub enum Refusal {
     /// A lent list is too short: 0 the graph list or a view's, 1 the path list.
@@ -428,6 +428,9 @@ fn succeeded(s: raw::BnvSuccessor) -> Result<Option<usize>, Refusal> {
         other => Err(Refusal::Mismatch(other)),
     }
 }
+
+#[cfg(test)]
+mod fields;
 
 #[cfg(test)]
 mod tests {

@@ -1,0 +1,199 @@
+//! Each field of each record arrives in its own place: the records have another number in every field.
+use super::*;
+use raw::*;
+
+/// The refusal of the records below, by number and value.
+const REFUSED: (u32, usize) = (BNV_REFUSED_ABSENT, 23);
+const ABSENT: Refusal = Refusal::Absent(REFUSED.1);
+
+#[test]
+fn of_check() {
+    let record = |answer| BnvCheck {
+        answer,
+        refusal: REFUSED.0,
+        value: REFUSED.1,
+        variables: 31,
+        start_rows: 32,
+        predicates: 33,
+        actions: 34,
+        forbidden: 35,
+    };
+    let counts = Counts {
+        variables: 31,
+        start_rows: 32,
+        predicates: 33,
+        actions: 34,
+        forbidden: 35,
+    };
+    assert_eq!(checked(record(BNV_GOOD)), Ok(counts));
+    assert_eq!(checked(record(BNV_CHECK_REFUSED)), Err(ABSENT));
+}
+
+#[test]
+fn of_step() {
+    let record = |answer| BnvStep {
+        answer,
+        variable: 31,
+        refusal: REFUSED.0,
+        value: REFUSED.1,
+    };
+    assert_eq!(stepped(record(BNV_NOT_ENABLED)), Ok(Step::NotEnabled));
+    assert_eq!(stepped(record(BNV_RUNS_OFF)), Ok(Step::RunsOff(31)));
+    assert_eq!(stepped(record(BNV_STEP_REFUSED)), Err(ABSENT));
+    assert_eq!(stepped(record(BNV_MOVED)), Ok(Step::Moved));
+}
+
+#[test]
+fn of_ask() {
+    let record = |answer| BnvAsk {
+        answer,
+        refusal: REFUSED.0,
+        value: REFUSED.1,
+    };
+    assert_eq!(asked(record(BNV_NOT_ACCEPTED)), Ok(Ask::NotAccepted));
+    assert_eq!(asked(record(BNV_ASK_REFUSED)), Err(ABSENT));
+    assert_eq!(asked(record(BNV_ACCEPTED)), Ok(Ask::Accepted));
+}
+
+fn judge_record(verdict: u32, high: u32) -> BnvJudge {
+    BnvJudge {
+        verdict,
+        node: 31,
+        place: 32,
+        variable: 33,
+        high,
+        nodes: 34,
+        edges: 35,
+        refusal: REFUSED.0,
+        value: REFUSED.1,
+    }
+}
+
+/// What the wrapper is to make of `judge_record`.
+fn judgement(verdict: Verdict) -> Result<Judgement, Refusal> {
+    Ok(Judgement {
+        verdict,
+        nodes: 34,
+        edges: 35,
+    })
+}
+
+#[test]
+fn of_judge() {
+    let forbid = Verdict::MayForbid {
+        node: 31,
+        combination: 32,
+    };
+    let run_off = |end| Verdict::MayRunOff {
+        node: 31,
+        action: 32,
+        variable: 33,
+        end,
+    };
+    for (number, high, verdict) in [
+        (BNV_MAY_FORBID, 0, forbid),
+        (BNV_MAY_FORBID, 1, forbid),
+        (BNV_MAY_RUN_OFF, 0, run_off(End::Low)),
+        (BNV_MAY_RUN_OFF, 1, run_off(End::High)),
+        (BNV_SAFE, 0, Verdict::Safe),
+        (BNV_SAFE, 1, Verdict::Safe),
+    ] {
+        assert_eq!(judged(judge_record(number, high)), judgement(verdict));
+    }
+    assert_eq!(judged(judge_record(BNV_JUDGE_REFUSED, 1)), Err(ABSENT));
+}
+
+#[test]
+fn of_show() {
+    let words = [41, 42, 43, 44, 45, 46];
+    let made = |verdict| {
+        let record = BnvShow {
+            answer: BNV_JUDGED,
+            logic: 2,
+            lemmas: 3,
+            judged: judge_record(verdict, 0),
+        };
+        shown(record, &words).unwrap()
+    };
+    let expected = |answer| Show {
+        logic: &words[..2],
+        lemmas: &words[2..5],
+        answer,
+    };
+    assert_eq!(made(BNV_SAFE), expected(judgement(Verdict::Safe)));
+    assert_eq!(made(BNV_JUDGE_REFUSED), expected(Err(ABSENT)));
+}
+
+#[test]
+fn of_successor() {
+    let record = |answer| BnvSuccessor {
+        answer,
+        node: 31,
+        refusal: REFUSED.0,
+        value: REFUSED.1,
+    };
+    assert_eq!(succeeded(record(BNV_NO_NODE)), Ok(None));
+    assert_eq!(succeeded(record(BNV_SUCCESSOR_REFUSED)), Err(ABSENT));
+    assert_eq!(succeeded(record(BNV_NODE)), Ok(Some(31)));
+}
+
+/// Two nodes with three actions, in a list that is long enough for three nodes with two; every word is an EDGE to another
+/// node, its own place.
+#[test]
+fn of_a_view() {
+    let graph: Vec<u32> = (0..12).map(|place| BNV_EDGE << 28 | place).collect();
+    for node in 0..4 {
+        for action in 0..4 {
+            let expected = match (node < 2, action < 3) {
+                (false, _) => Err(Refusal::Absent(node)),
+                (true, false) => Err(Refusal::Absent(action)),
+                (true, true) => Ok(Some(node * (2 + 3) + 2 + action)),
+            };
+            assert_eq!(View::new(&graph, 2, 3).successor(node, action), expected);
+        }
+    }
+}
+
+/// Every refusal with its number, and its value but for `Nodes`, whose value is always the same.
+#[test]
+fn of_refusals() {
+    let all = [
+        Refusal::Short(9),
+        Refusal::Word(9),
+        Refusal::Limit(9),
+        Refusal::Value(9),
+        Refusal::Lemma(9),
+        Refusal::Lemmas(9),
+        Refusal::Nodes,
+        Refusal::Absent(9),
+        Refusal::Length(9),
+        Refusal::State(9),
+        Refusal::Sum(9),
+    ];
+    for (number, refusal) in (1..).zip(all) {
+        let value = if number == 7 { 512 } else { 9 };
+        assert_eq!(Refusal::of(number, 9), refusal);
+        assert_eq!((refusal.number(), refusal.value()), (number, value));
+    }
+}
+
+/// Words that tell every bit apart, with kind and payload.
+#[test]
+fn of_words() {
+    for (word, word_kind, word_payload) in [
+        (0, 0, 0),
+        (0xFFFF_FFFF, 15, 0x0FFF_FFFF),
+        (0xF000_0000, 15, 0),
+        (0x0FFF_FFFF, 0, 0x0FFF_FFFF),
+        (0xA5A5_A5A5, 10, 0x05A5_A5A5),
+        (0x5A5A_5A5A, 5, 0x0A5A_5A5A),
+    ] {
+        assert_eq!((kind(word), payload(word)), (word_kind, word_payload));
+    }
+    for bit in 0..28 {
+        assert_eq!((kind(1 << bit), payload(1 << bit)), (0, 1 << bit));
+    }
+    for bit in 28..32 {
+        assert_eq!((kind(1 << bit), payload(1 << bit)), (1 << (bit - 28), 0));
+    }
+}
