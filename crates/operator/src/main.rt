@@ -3,7 +3,7 @@
 // that. Where reading or writing fails, it says so on standard error, and no verdict is printed on a part of the input.
 ghost use mathlib.Core.Path.{_≡_};
 ghost use lib.ListN.{length};
-ghost use Rattle.operator.specs.Program.{Within, linesAfter, Leads};
+ghost use Rattle.operator.specs.Program.{HasRoom, linesAfter, Leads};
 use libc::STDERR_FILENO;
 use libc::STDIN_FILENO;
 use libc::STDOUT_FILENO;
@@ -38,7 +38,7 @@ fn pause(wanted: bool) {
 
 // Reads standard input to its end, or until the bytes are full. Where that fails, it says why.
 fn read_whole(bytes: &mut [u8]) -> Progress
-    ensures { λ r. ⌜ Within r (length (now (bytes .exit))) ⌝ }
+    ensures { λ r. ⌜ HasRoom r (length (now (bytes .exit))) ⌝ }
 {
     let room = bytes.len();
     let mut done: usize = 0;
@@ -63,7 +63,7 @@ fn read_whole(bytes: &mut [u8]) -> Progress
 
 // The lines for the bytes that were read; none where reading did not come to the end of the input.
 fn put_lines(end: Progress, bytes: &[u8], lines: &mut [u8]) -> usize
-    requires { ⌜ Within end (length (now bytes)) ⌝ }
+    requires { ⌜ HasRoom end (length (now bytes)) ⌝ }
     ensures { λ r. ⌜ Leads (linesAfter end (now (bytes .entry)) (now (lines .entry))) r (now (lines .entry)) (now (lines .exit)) ⌝ }
 {
     match end {

@@ -11,7 +11,7 @@ use borrow.Author.Tests.{lt-ltb, le-ltb}
 use Rattle.records.specs.Records.{graphWords}
 use Rattle.verdict.specs.Verdicts.{pathWords}
 use Rattle.show.specs.declared.Shown.{Shown}
-use Rattle.show.specs.Show.{mostBytes, showWords, shown, show, SafeShow}
+use Rattle.show.specs.Show.{mostBytes, showWords, ofBytes, show, SafeShow}
 use Rattle.lines.specs.Text.{text}
 use Rattle.lines.specs.Puts.{Put}
 use Rattle.lines.proofs.Puts.{at-front}
@@ -28,7 +28,7 @@ abbrev pub Reported : List ℕ → List ℕ → List ℕ → ℕ → Type 0
 Reported b lines out r = (out ≡ written b lines ++ drop (length (written b lines)) lines) × (r ≡ length (written b lines))
 
 pub cut : (b more : List ℕ) → mostBytes < length b → linesOf (b ++ more) ≡ linesOf b
-unfolding linesOf shown
+unfolding linesOf ofBytes
 cut b more h =
     let longer : mostBytes < length (b ++ more) = omega (arith, length-append b more) in
     rw (lt-ltb mostBytes (length (b ++ more)) longer, lt-ltb mostBytes (length b) h)

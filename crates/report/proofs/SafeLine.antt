@@ -12,8 +12,8 @@ use Rattle.judge.specs.declared.Judged.the-variants.{MayForbid, MayRunOff, Refu
 use Rattle.judge.specs.declared.Judged.the-variants.{Safe as IsSafe}
 use Rattle.show.specs.declared.Shown.{Shown}
 use Rattle.show.specs.declared.Shown.the-variants.{WordsShort, TooLong, OddBytes, Answered}
-use Rattle.show.specs.Show.{shown, SafeShow}
-use Rattle.show.proofs.Safe.{shown-safe}
+use Rattle.show.specs.Show.{ofBytes, SafeShow}
+use Rattle.show.proofs.Safe.{bytes-safe}
 use Rattle.lines.specs.Text.{text, line}
 use Rattle.report.specs.Report.{zeros, runOffLine, answerLines, shownLines, linesOf, Begins}
 
@@ -38,6 +38,6 @@ lines-safe (Answered l m a) path h = let (n, e, is) = answer-safe a path h in (l
 pub show-safe : (b : List ℕ) → Begins (text "SAFE") (linesOf b) → SafeShow b
 unfolding linesOf
 show-safe b h =
-    let s = shown b (zeros graphWords) (zeros pathWords) in
+    let s = ofBytes b (zeros graphWords) (zeros pathWords) in
     let (l, m, n, e, is) = lines-safe (s .answer) (s .path) h in
-    shown-safe b (zeros graphWords) (zeros pathWords) l m n e is
+    bytes-safe b (zeros graphWords) (zeros pathWords) l m n e is

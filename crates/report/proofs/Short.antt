@@ -25,7 +25,7 @@ use Rattle.judge.specs.Calls.{Judgement, keep, verdict, pathTo, judgeGraph, jud
 use Rattle.judge.specs.declared.Judged.the-variants.{Refused}
 use Rattle.judge.proofs.Walks.{findings-within}
 use Rattle.show.specs.declared.Shown.the-variants.{TooLong, OddBytes}
-use Rattle.show.specs.Show.{mostBytes, wordsIn, logicIn, lemmasIn, showIn, shown}
+use Rattle.show.specs.Show.{mostBytes, wordsIn, logicIn, lemmasIn, ofWords, ofBytes}
 use Rattle.lines.specs.Text.{text, decimal, line}
 use Rattle.lines.proofs.Puts.{length-line}
 use Rattle.lines.proofs.Decimals.{decimal-short}
@@ -87,11 +87,11 @@ judged-room logic lemmas =
     (by-test (ltb (length pl) pathWords) (keep (Refused (Short 1)) gl pl) inner (refused-room (Short 1) pl) (program-room logic lemmas gl (read logic) refl))
 
 pub lines-room : (b : List ℕ) → length (linesOf b) ≤ linesRoom
-unfolding linesOf shownLines shown
+unfolding linesOf shownLines ofBytes
 lines-room b = go (ltb mostBytes (length b)) (eqb (length b % 4) 0)
   where
     go : (long whole : Bool) → let s = cond long (record { answer = TooLong; graph = zeros graphWords; path = zeros pathWords })
-        (cond whole (showIn (wordsIn b) (zeros graphWords) (zeros pathWords)) (record { answer = OddBytes; graph = zeros graphWords; path = zeros pathWords }))
+        (cond whole (ofWords (wordsIn b) (zeros graphWords) (zeros pathWords)) (record { answer = OddBytes; graph = zeros graphWords; path = zeros pathWords }))
         in length (shownLines (s .answer) (s .path)) ≤ linesRoom
     go true whole = omega arith
     go false true = judged-room (logicIn (wordsIn b)) (lemmasIn (wordsIn b))

@@ -24,7 +24,7 @@ use Rattle.judge.specs.declared.Judged.the-variants.{MayForbid, MayRunOff, Refu
 use Rattle.judge.specs.declared.Judged.the-variants.{Safe as IsSafe}
 use Rattle.show.specs.declared.Shown.{Shown}
 use Rattle.show.specs.declared.Shown.the-variants.{WordsShort, TooLong, OddBytes, Answered}
-use Rattle.show.specs.Show.{shown}
+use Rattle.show.specs.Show.{ofBytes}
 use Rattle.lines.specs.Text.{text, field, line}
 
 abbrev pub linesRoom : ℕ
@@ -75,7 +75,7 @@ shownLines OddBytes path = text "ODD BYTES\n"
 shownLines (Answered logic lemmas a) path = answerLines a path
 
 unfoldable pub linesOf : List ℕ → List ℕ
-linesOf b = let s = shown b (zeros graphWords) (zeros pathWords) in shownLines (s .answer) (s .path)
+linesOf b = let s = ofBytes b (zeros graphWords) (zeros pathWords) in shownLines (s .answer) (s .path)
 
 abbrev pub written : List ℕ → List ℕ → List ℕ
 written b lines = cond (ltb (length lines) linesRoom) [] (linesOf b)

@@ -13,7 +13,7 @@ use Rattle.little.specs.LittleEndian.{wordsOf}
 use Rattle.little.proofs.Laws.{length-words}
 use Rattle.show.specs.declared.Shown.{Shown}
 use Rattle.show.specs.declared.Shown.the-variants.{WordsShort, TooLong, OddBytes, Answered}
-use Rattle.show.specs.Show.{mostBytes, showWords, logicLength, wordsIn, logicIn, lemmasIn, showIn, shown, show, wordsLeft, SafeShow}
+use Rattle.show.specs.Show.{mostBytes, showWords, logicLength, wordsIn, logicIn, lemmasIn, ofWords, ofBytes, show, wordsLeft, SafeShow}
 use Rattle.show.proofs.Safe.{show-safe}
 
 -- the part from word n on has as many words as are left
@@ -32,7 +32,7 @@ module _ (ws gl pl : List ℕ) (n : ℕ) (is : n ≡ logicLength ws) (low : n �
 
   pub in-parts : {a : Judged} {g p : List ℕ} → a ≡ judge (take n ws) (take (length ws - n) (drop n ws)) gl pl .answer
       → g ≡ judge (take n ws) (take (length ws - n) (drop n ws)) gl pl .graph → p ≡ judge (take n ws) (take (length ws - n) (drop n ws)) gl pl .path
-      → (Answered n (length ws - n) a ≡ showIn ws gl pl .answer) × ((g ≡ showIn ws gl pl .graph) × (p ≡ showIn ws gl pl .path))
+      → (Answered n (length ws - n) a ≡ ofWords ws gl pl .answer) × ((g ≡ ofWords ws gl pl .graph) × (p ≡ ofWords ws gl pl .path))
   in-parts ea eg ep = (rw (ea, both, first, second), (eg ∙ rw both, ep ∙ rw both))
 
 abbrev pub Shows : List ℕ → List ℕ → List ℕ → List ℕ → Shown → List ℕ → List ℕ → List ℕ → Type 0
@@ -49,16 +49,16 @@ module _ (b wl gl pl : List ℕ) where
   words-short h = let s = lt-ltb (length wl) showWords h in shows (rw s) refl (rw s) (rw s)
 
   module _ (room : showWords ≤ length wl) where
-    past : show b wl gl pl ≡ shown b gl pl
+    past : show b wl gl pl ≡ ofBytes b gl pl
     past = rw (le-ltb (length wl) showWords room)
 
     pub too-long : mostBytes < length b → Shows b wl gl pl TooLong wl gl pl
-    unfolding shown
+    unfolding ofBytes
     too-long h = let s = lt-ltb mostBytes (length b) h in shows (rw (past, s)) refl (rw (past, s)) (rw (past, s))
 
     module _ (few : length b ≤ mostBytes) where
       pub odd-bytes : (length b % 4 ≡ 0 → ⊥) → Shows b wl gl pl OddBytes wl gl pl
-      unfolding shown
+      unfolding ofBytes
       odd-bytes o = let s = le-ltb mostBytes (length b) few in let t = ne-eqb (length b % 4) 0 o in shows (rw (past, s, t)) refl (rw (past, s, t)) (rw (past, s, t))
 
       -- the words' list holds the words of the bytes at its front
@@ -66,11 +66,11 @@ module _ (b wl gl pl : List ℕ) where
         front : take (length b / 4) ws ≡ wordsIn b
         front = rw are (take-at (wordsIn b) (drop (length b / 4) wl) (length b / 4) (length-words b (length b / 4)))
 
-        through : show b wl gl pl ≡ showIn (take (length b / 4) ws) gl pl
-        unfolding shown
+        through : show b wl gl pl ≡ ofWords (take (length b / 4) ws) gl pl
+        unfolding ofBytes
         through = rw (past, le-ltb mostBytes (length b) few, eq-eqb (length b % 4) 0 even, front)
 
-        pub whole-words : {r : Shown} {g p : List ℕ} → r ≡ showIn (take (length b / 4) ws) gl pl .answer → g ≡ showIn (take (length b / 4) ws) gl pl .graph
-            → p ≡ showIn (take (length b / 4) ws) gl pl .path → Shows b wl gl pl r ws g p
+        pub whole-words : {r : Shown} {g p : List ℕ} → r ≡ ofWords (take (length b / 4) ws) gl pl .answer → g ≡ ofWords (take (length b / 4) ws) gl pl .graph
+            → p ≡ ofWords (take (length b / 4) ws) gl pl .path → Shows b wl gl pl r ws g p
         whole-words er eg ep =
             shows (er ∙ rw through) (are ∙ rw (er, length-words b (length b / 4))) (eg ∙ rw through) (ep ∙ rw through)

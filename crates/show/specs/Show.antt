@@ -4,8 +4,8 @@
 -- logicLength — how many words belong to the logic: the first one of kind 15 is its last; without one, all
 -- wordsIn, logicIn, lemmasIn — the words of a show's bytes, the lowest byte first; the logic and the lemmas in words
 -- Showing     — the answer, and the graph and path lists at exit
--- showIn      — Judge, of the logic and the lemmas in words, with how many words each has
--- shown       — of any bytes: too long, then odd bytes, then Judge
+-- ofWords     — Judge, of the logic and the lemmas in words, with how many words each has
+-- ofBytes     — of any bytes: too long, then odd bytes, then Judge
 -- show        — the same where the words' list is long enough
 -- wordsLeft   — the words' list at exit: an answer of Judge leaves the show's words at its front, any other leaves it
 -- SafeShow    — the bytes hold the logic of a program, and it is safe
@@ -51,18 +51,18 @@ pub record Showing : Type 0 where
   pub graph : List ℕ
   pub path : List ℕ
 
-abbrev pub showIn : List ℕ → List ℕ → List ℕ → Showing
-showIn ws gl pl =
+abbrev pub ofWords : List ℕ → List ℕ → List ℕ → Showing
+ofWords ws gl pl =
     let j = judge (logicIn ws) (lemmasIn ws) gl pl in
     record { answer = Answered (length (logicIn ws)) (length (lemmasIn ws)) (j .answer); graph = j .graph; path = j .path }
 
-unfoldable pub shown : List ℕ → List ℕ → List ℕ → Showing
-shown b gl pl =
+unfoldable pub ofBytes : List ℕ → List ℕ → List ℕ → Showing
+ofBytes b gl pl =
     cond (ltb mostBytes (length b)) (record { answer = TooLong; graph = gl; path = pl })
-    (cond (eqb (length b % 4) 0) (showIn (wordsIn b) gl pl) (record { answer = OddBytes; graph = gl; path = pl }))
+    (cond (eqb (length b % 4) 0) (ofWords (wordsIn b) gl pl) (record { answer = OddBytes; graph = gl; path = pl }))
 
 abbrev pub show : List ℕ → List ℕ → List ℕ → List ℕ → Showing
-show b wl gl pl = cond (ltb (length wl) showWords) (record { answer = WordsShort; graph = gl; path = pl }) (shown b gl pl)
+show b wl gl pl = cond (ltb (length wl) showWords) (record { answer = WordsShort; graph = gl; path = pl }) (ofBytes b gl pl)
 
 abbrev pub wordsLeft : Shown → List ℕ → List ℕ → List ℕ
 wordsLeft (Answered l m a) b wl = wordsIn b ++ drop (length (wordsIn b)) wl

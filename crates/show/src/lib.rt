@@ -5,7 +5,7 @@ ghost use Prim.Native.Nat.{ℕ, _≤_};
 ghost use lib.ListN.{length};
 ghost use Rattle.judge.specs.declared.Judged.the-variants.{Safe};
 ghost use Rattle.show.specs.declared.Shown.the-variants.{Answered};
-ghost use Rattle.show.specs.Show.{logicLength, showIn, show, wordsLeft, SafeShow};
+ghost use Rattle.show.specs.Show.{logicLength, ofWords, show, wordsLeft, SafeShow};
 use judge::Judged;
 use words::Kind;
 
@@ -41,9 +41,9 @@ fn logic_length(words: &[u32]) -> usize
 
 // Judge, of the logic and the lemmas in words.
 fn answered(words: &[u32], graph: &mut [u32], path: &mut [u32]) -> Shown
-    ensures answer { λ r. ⌜ r ≡ showIn (now (words .entry)) (now (graph .entry)) (now (path .entry)) .answer ⌝ }
-    ensures graph { λ _. ⌜ now (graph .exit) ≡ showIn (now (words .entry)) (now (graph .entry)) (now (path .entry)) .graph ⌝ }
-    ensures path { λ _. ⌜ now (path .exit) ≡ showIn (now (words .entry)) (now (graph .entry)) (now (path .entry)) .path ⌝ }
+    ensures answer { λ r. ⌜ r ≡ ofWords (now (words .entry)) (now (graph .entry)) (now (path .entry)) .answer ⌝ }
+    ensures graph { λ _. ⌜ now (graph .exit) ≡ ofWords (now (words .entry)) (now (graph .entry)) (now (path .entry)) .graph ⌝ }
+    ensures path { λ _. ⌜ now (path .exit) ≡ ofWords (now (words .entry)) (now (graph .entry)) (now (path .entry)) .path ⌝ }
 {
     let n = logic_length(words);
     let rest = words.len() - n;

@@ -10,7 +10,7 @@ use Rattle.judge.specs.Calls.{Judgement, judge}
 use Rattle.judge.specs.declared.Judged.the-variants.{Safe}
 use Rattle.lines.specs.Text.{text, spelled, decimal, line}
 use Rattle.little.specs.LittleEndian.{wordsOf, bytesOf}
-use Rattle.show.specs.Show.{logicLength, wordsIn, logicIn, lemmasIn, shown}
+use Rattle.show.specs.Show.{logicLength, wordsIn, logicIn, lemmasIn, ofBytes}
 use Rattle.report.specs.Report.{zeros, answerLines, shownLines, linesOf}
 use Rattle.worked.specs.Shows.{fade, fadeLemmas}
 use Rattle.worked.proofs.Table.{fadeRecords, left, worked}
@@ -31,7 +31,7 @@ fade-judged : judge fade fadeLemmas (zeros graphWords) (zeros pathWords) .answer
 fade-judged = ap (λ (j : Judgement). j .answer) (worked .a (zeros graphWords) (zeros pathWords) (long graphWords) (long pathWords))
 
 pub fade-line : linesOf (bytesOf (fade ++ fadeLemmas)) ≡ text "SAFE nodes 1 edges 2\n"
-unfolding linesOf shown shownLines bytesOf answerLines line decimal spelled
+unfolding linesOf ofBytes shownLines bytesOf answerLines line decimal spelled
 fade-line = rw (fade-words, fade-logic .0, fade-logic .1, fade-judged) spelled-out
   where
     spelled-out : answerLines (Safe 1 2) (judge fade fadeLemmas (zeros graphWords) (zeros pathWords) .path) ≡ text "SAFE nodes 1 edges 2\n"
