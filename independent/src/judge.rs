@@ -3,7 +3,7 @@
 use std::collections::HashMap;
 
 use crate::lemma::{self, Goal, Lemma, Source};
-use crate::program::{self, Literals, Program};
+use crate::program::{self, Action, Literals, Program, Row};
 use crate::words::*;
 use crate::{Judged, Refusal};
 
@@ -18,12 +18,29 @@ struct Accepted {
 struct Shelf {
     start: Vec<Accepted>,
     actions: Vec<Vec<Accepted>>,
+    /// For each action the numbers of the predicates that it leaves untouched.
+    untouched: Vec<Vec<usize>>,
+}
+
+/// Request 1: "a predicate's row has a zero coefficient on every variable that an action sets".
+/// It sets the variables of its SET words, also to their own value.
+fn untouched(action: &Action, predicate: &Row) -> bool {
+    action.assignments.iter().all(|assignment| predicate.coefficients[assignment.variable] == 0)
+}
+
+/// The numbers of all predicates that an action leaves untouched.
+fn all_untouched(program: &Program, action: &Action) -> Vec<usize> {
+    (0..program.predicates.len()).filter(|p| untouched(action, &program.predicates[*p])).collect()
 }
 
 impl Shelf {
     /// Weighs each lemma once, in order; the lowest that leaves 64 bits is refusal 11.
     fn fill(program: &Program, lemmas: &[Lemma]) -> Result<Shelf, Refusal> {
-        let mut shelf = Shelf { start: Vec::new(), actions: vec![Vec::new(); program.actions.len()] };
+        let mut shelf = Shelf {
+            start: Vec::new(),
+            actions: vec![Vec::new(); program.actions.len()],
+            untouched: program.actions.iter().map(|action| all_untouched(program, action)).collect(),
+        };
         for (number, lemma) in lemmas.iter().enumerate() {
             match lemma::weigh(program, lemma) {
                 None => return Err(Refusal { number: 11, value: number as u64 }),
@@ -41,10 +58,22 @@ impl Shelf {
     }
 }
 
+/// Request 1: "the successor should keep the node's literal on it, for the whole set of such
+/// predicates at once, with no lemma." The literals of the node on the untouched predicates.
+fn kept(untouched: &[usize], node: &Literals) -> Literals {
+    let mut kept = Literals::default();
+    for predicate in untouched {
+        kept.known_true |= node.known_true & 1 << predicate;
+        kept.known_false |= node.known_false & 1 << predicate;
+    }
+    kept
+}
+
 /// "no successor if a goal 0 lemma applies, or if goals 1 and 2 apply for one predicate. Else the
-/// successor holds exactly the literals whose lemma applies."
-fn successor(lemmas: &[Accepted], node: &Literals) -> Option<Literals> {
-    let mut next = Literals::default();
+/// successor holds exactly the literals whose lemma applies", and those that are kept. "A lemma for
+/// the opposite literal may still apply; then there is no successor, as before."
+fn successor(lemmas: &[Accepted], untouched: &[usize], node: &Literals) -> Option<Literals> {
+    let mut next = kept(untouched, node);
     for lemma in lemmas {
         if !lemma.premises.within(node) {
             continue;
@@ -76,8 +105,9 @@ fn explore(shelf: &Shelf) -> Result<Vec<Node>, Refusal> {
     let mut nodes: Vec<Node> = Vec::new();
     let mut known: HashMap<Literals, usize> = HashMap::new();
     // "The start makes node 0 by the same rule from the start lemmas; if it has no successor the
-    // graph is empty." Start lemmas have no premises, so they apply at the empty set.
-    match successor(&shelf.start, &Literals::default()) {
+    // graph is empty." Start lemmas have no premises, so they apply at the empty set. There is no
+    // node before it of which something is kept.
+    match successor(&shelf.start, &[], &Literals::default()) {
         None => return Ok(nodes),
         Some(literals) => {
             known.insert(literals, 0);
@@ -89,7 +119,7 @@ fn explore(shelf: &Shelf) -> Result<Vec<Node>, Refusal> {
         let literals = nodes[at].literals;
         let mut edges = Vec::with_capacity(shelf.actions.len());
         for (action, lemmas) in shelf.actions.iter().enumerate() {
-            let edge = match successor(lemmas, &literals) {
+            let edge = match successor(lemmas, &shelf.untouched[action], &literals) {
                 None => None,
                 Some(next) => match known.get(&next) {
                     Some(node) => Some(*node),

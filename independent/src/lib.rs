@@ -1,4 +1,5 @@
-//! An independent implementation of document 01, "Show logic, lemmas and the abstract state graph".
+//! An independent implementation of document 01, "Show logic, lemmas and the abstract state graph",
+//! with request 1 of document 02, "Untouched predicates keep their literal".
 
 pub mod bytes;
 pub mod judge;

@@ -1,6 +1,7 @@
 //! Makes the test records. Where an answer can be worked out by hand from the document, the case
 //! carries it (`hand`), and a unit test compares.
 
+use crate::program::{Literals, Program};
 use crate::records::{Record, ASK, JUDGE};
 use crate::words::*;
 
@@ -45,6 +46,11 @@ pub fn never() -> RowText {
 
 pub fn act(guards: &[RowText], sets: &[(u32, RowText)]) -> ActionText {
     ActionText { guards: guards.to_vec(), sets: sets.to_vec() }
+}
+
+/// The assignment of a variable to itself: what speaks of the variable is touched all the same.
+pub fn itself(variable: u32) -> (u32, RowText) {
+    (variable, row(0, &[(variable, 1)]))
 }
 
 pub fn var_word(low: i32, high: i32) -> u32 {
@@ -112,6 +118,23 @@ impl Text {
         *multipliers.last_mut().unwrap() = 1;
         lemma(source, goal, index, f, t, &multipliers)
     }
+
+    /// Lemmas for both ends of each variable that an action sets, by the negated goal alone:
+    /// accepted if the assigned row stays on the range by itself.
+    pub fn ends(&self, action: u32) -> Vec<u32> {
+        let one = |goal: u32, variable: u32| {
+            let mut multipliers = vec![0; self.due(action, goal, 0, 0)];
+            multipliers[0] = 1;
+            lemma(action, goal, variable, 0, 0, &multipliers)
+        };
+        let sets = &self.actions[action as usize].sets;
+        sets.iter().flat_map(|(v, _)| [one(3, *v), one(4, *v)].concat()).collect()
+    }
+
+    /// The same for all actions.
+    pub fn all_ends(&self) -> Vec<u32> {
+        (0..self.actions.len() as u32).flat_map(|action| self.ends(action)).collect()
+    }
 }
 
 pub fn lemma(source: u32, goal: u32, index: u32, f: u32, t: u32, multipliers: &[u32]) -> Vec<u32> {
@@ -135,6 +158,11 @@ pub fn split_lemmas(words: &[u32]) -> Vec<Vec<u32>> {
 fn without(lemmas: &[Vec<u32>], dropped: usize) -> Vec<u32> {
     let kept = lemmas.iter().enumerate().filter(|(i, _)| *i != dropped);
     kept.flat_map(|(_, l)| l.iter().copied()).collect()
+}
+
+/// All lemmas but those that begin with one of these LEMMA words.
+pub fn leave_out(lemmas: &[Vec<u32>], words: &[u32]) -> Vec<u32> {
+    lemmas.iter().filter(|l| !words.contains(&l[0])).flatten().copied().collect()
 }
 
 fn of_bytes(bytes: &[u8]) -> (Vec<u32>, Vec<u32>) {
@@ -218,6 +246,12 @@ pub fn house_lemmas() -> Vec<Vec<u32>> {
 pub fn house_failing(lemmas: &[Vec<u32>]) -> usize {
     lemmas.iter().position(|l| l[0] == lemma_word(0, 2, 0)).unwrap()
 }
+
+/// What (e) leaves out, and the start's lemma that P0 fails: then there is no literal to keep.
+pub const HOUSE_P0_UNKNOWN: [u32; 2] = [0x9FF20000, 0x90020000];
+
+/// Both lemmas of action 0 on P0: that it cannot happen where P0 holds, and that P0 fails afterwards.
+pub const HOUSE_P0_KEPT: [u32; 2] = [0x90000000, 0x90020000];
 
 /// A small program with every part, for faults.
 pub fn demo() -> Text {
@@ -307,6 +341,7 @@ pub fn cases() -> Vec<Case> {
     limits(&mut book);
     graphs(&mut book);
     verdicts(&mut book);
+    request_1(&mut book);
     random(&mut book);
     book.cases
 }
@@ -349,18 +384,18 @@ fn worked(book: &mut Book) {
     book.judge("house, own full lemmas", &home, &full, "SAFE nodes 3 edges 10");
     book.judge_with("house, own full lemmas, longer", &home, &full, 10000, PATH + 1, "SAFE nodes 3 edges 10");
     book.judge("house (d), no lemmas", &home, &[], "FORBID node 0 bad 0 nodes 1 edges 4");
-    // (e): node 0 {not P0, not P1} goes by 0 to 1 {P1}, by 1 to 2 {P0, not P1}, by 2 and 3 to 0;
-    // 1 to 1, none, 3 {not P0, P1}, 4 {not P1}; 2 to none, 2, 0, 2; 3 to 1, none, 3, 0; 4 to
-    // 1, 2, 0, 4. Node 1 does not contradict 80000003.
-    let e_line = "FORBID node 1 bad 0 nodes 5 edges 17";
+    // (e) with request 1: "the three nodes and ten edges of House with full lemmas, and is safe".
+    // Action 0 sets house alone, so node 0's literal not P0 is kept.
+    let e_line = "SAFE nodes 3 edges 10";
     let e = without(&list, house_failing(&list));
     book.judge("house (e), own lemmas", &home, &e, e_line);
     let (file_home, file_lemmas) = show("house");
     let file_list = split_lemmas(&file_lemmas);
     let e = without(&file_list, house_failing(&file_list));
     book.judge("house (e), the show's lemmas", &file_home, &e, e_line);
-    for dropped in (0..list.len()).filter(|d| *d != house_failing(&list) && d % 3 > 0) {
-        book.judge(&format!("house without own lemma {dropped}"), &home, &without(&list, dropped), "");
+    house_paths(book);
+    for (dropped, hand) in house_dropped() {
+        book.judge(&format!("house without own lemma {dropped}"), &home, &without(&list, dropped), hand);
     }
     for k in 0..list.len() as u32 {
         if k % 7 == 0 {
@@ -386,7 +421,58 @@ fn worked(book: &mut Book) {
     book.judge("(h) coefficient -1001", &p, &[], "REFUSED 4 AT 5");
 }
 
-/// The shows of shows/ that came with the document.
+/// House with a finding behind node 0. It takes the place of what (e) was before request 1.
+fn house_paths(book: &mut Book) {
+    let home = house().words();
+    // Node 0 {not P1} goes by 0 to 1 {P1}, by 1 to 2 {P0, not P1}, by 2 to 3 {not P0, not P1} (not P1
+    // is kept), by 3 to 0; 1 to 1, none, 4 {not P0, P1}, 0; 2 to none, 2, 3, 2; 3 to 4, 2, 3, 3; 4 to
+    // 4, none, 4, 3. Node 1 does not contradict 80000003. Path 0.
+    let line = "FORBID node 1 bad 0 nodes 5 edges 17";
+    let l = leave_out(&house_lemmas(), &HOUSE_P0_UNKNOWN);
+    book.judge("house (e), P0 unknown at the start, own lemmas", &home, &l, line);
+    book.judge_with("house (e), P0 unknown at the start, longer", &home, &l, GRAPH + 9, PATH + 2, line);
+    let l = leave_out(&split_lemmas(&show("house").1), &HOUSE_P0_UNKNOWN);
+    book.judge("house (e), P0 unknown at the start, the show's lemmas", &home, &l, line);
+    // Nodes 0 to 2 are those of the full lemmas; 2 {P0, not P1} goes by 0 to 3 {P0, P1}, P0 being
+    // kept. 0 to 1, 2, 0, 0; 1 to 1, none, 1, 0; 2 to 3, 2, 0, 2; 3 to 3, none, 1, 2. Path 1 0.
+    let line = "FORBID node 3 bad 0 nodes 4 edges 14";
+    let l = leave_out(&house_lemmas(), &HOUSE_P0_KEPT);
+    book.judge("house without action 0's lemmas on P0", &home, &l, line);
+}
+
+/// House without one of its own lemmas. The graph of the full lemmas (3 nodes, 10 edges) stays
+/// without a lemma of a range end, and without one for a literal that is kept. Without lemma 2 or 7
+/// the literal kept (P0 at node 2, P1 at node 1) meets the opposite, shown by lemma 3 or 9: no
+/// successor, as with goal 0.
+fn house_dropped() -> Vec<(usize, &'static str)> {
+    let full = "SAFE nodes 3 edges 10";
+    vec![
+        // 0 {not P0} to 1 {not P0, P1}, 2 {P0, not P1}, 0, 3 {not P0, not P1}; 1 to 1, none, 1, 3; 2
+        // to none, 2, 3, 2; 3 to 1, 2, 3, 3.
+        (1, "SAFE nodes 4 edges 14"),
+        (2, full),
+        // 0 to 1 {not P0}, 2, 0, 0; 1 to 1, 2, 1, 0; 2 to none, 2, 0, 2.
+        (4, "SAFE nodes 3 edges 11"),
+        (5, "RUNOFF node 0 action 0 variable 1 low nodes 3 edges 10"),
+        (7, full),
+        // 0 to 1, 2 {not P1}, 0, 0; 1 to 1, none, 1, 0; 2 to 1, 2, 0, 2.
+        (8, "SAFE nodes 3 edges 11"),
+        (10, "RUNOFF node 0 action 1 variable 0 low nodes 3 edges 10"),
+        (11, "RUNOFF node 0 action 1 variable 0 high nodes 3 edges 10"),
+        (13, full),
+        (14, full),
+        (16, "RUNOFF node 0 action 2 variable 0 high nodes 3 edges 10"),
+        (17, full),
+        // 0 to 1, 2, 0, 3 {not P0}; 1 to 1, none, 1, 3; 2 to none, 2, 0, 4 {P0}; 3 to 1, 2, 3, 3; 4 to
+        // none, 2, 3, 4. Path 1 3.
+        (19, "FORBID node 4 bad 0 nodes 5 edges 17"),
+        (20, "RUNOFF node 0 action 3 variable 1 low nodes 3 edges 10"),
+    ]
+}
+
+/// The shows of shows/ that came with the document. Request 1 leaves their graphs as they were: in
+/// house and rig8 each literal kept is also shown by a lemma; in bakery all nodes have all literals,
+/// and each edge is walked by a state, so that nothing kept meets its opposite (tests look at both).
 fn show_files(book: &mut Book) {
     for (name, line) in [
         ("fade", "SAFE nodes 1 edges 2"),
@@ -415,13 +501,14 @@ fn show_files(book: &mut Book) {
     }
     let (p, l) = show("bakery");
     let list = split_lemmas(&l);
-    for dropped in [0, 9, 34, 47, 58, 99, 113] {
+    for dropped in [0, 9, 17, 34, 47, 58, 69, 99, 103, 113] {
         book.judge(&format!("bakery without lemma {dropped}"), &p, &without(&list, dropped), "");
     }
     let (p, l) = show("rig8");
     let list = split_lemmas(&l);
-    for dropped in [0, 14, 270, 277] {
-        book.judge(&format!("rig8 without lemma {dropped}"), &p, &without(&list, dropped), "");
+    // 14 and 270 say that actions 0 and 11 keep not P2 and not P4, which they don't touch.
+    for (dropped, hand) in [(0, ""), (11, ""), (14, "SAFE nodes 500 edges 5600"), (270, "SAFE nodes 500 edges 5600"), (277, "")] {
+        book.judge(&format!("rig8 without lemma {dropped}"), &p, &without(&list, dropped), hand);
     }
     // The logic with the lemmas of another show.
     book.both("rig8 logic, bakery lemmas", &p, &show("bakery").1, "");
@@ -1151,8 +1238,9 @@ fn limits(book: &mut Book) {
     book.ask("greatest program, ask 511", &t.words(), &l, 511, "");
 }
 
-/// `bits` predicates over one variable and `actions` actions, no assignments. Action i (below
-/// `bits`) has the guard P_i and keeps the other true predicates: the nodes are the subsets.
+/// `bits` predicates over one variable and `actions` actions that set it to itself, so that they
+/// touch all. Action i (below `bits`) has the guard P_i and keeps the other true predicates by
+/// lemmas: the nodes are the subsets.
 pub fn subsets_text(bits: u32, actions: u32) -> (Text, Vec<u32>) {
     let pred: Vec<RowText> = (0..bits).map(|i| row(-(i as i32) - 1, &[(0, 1)])).collect();
     let guard = |i: u32| if i < bits { pred[i as usize].clone() } else { never() };
@@ -1160,10 +1248,10 @@ pub fn subsets_text(bits: u32, actions: u32) -> (Text, Vec<u32>) {
         vars: vec![(0, 100)],
         init: vec![],
         pred: pred.clone(),
-        actions: (0..actions).map(|i| act(&[guard(i)], &[])).collect(),
+        actions: (0..actions).map(|i| act(&[guard(i)], &[itself(0)])).collect(),
         bad: vec![],
     };
-    let mut l = Vec::new();
+    let mut l = t.all_ends(); // -x-1 and x-101: at most -1
     for i in 0..bits.min(actions) {
         for j in 0..bits {
             if i == j {
@@ -1182,12 +1270,13 @@ pub fn subsets(bits: u32, actions: u32) -> (Vec<u32>, Vec<u32>) {
 }
 
 /// A counter of `bits` bits: the start is all false, action 0 counts up, and back to 0 at the end.
+/// It sets the variable that all bits speak of, so that nothing is kept. Its ends come last.
 pub fn counter(bits: u32, bad: &[(u32, u32)]) -> (Text, Vec<u32>) {
     let t = Text {
         vars: vec![(0, 0)],
         init: vec![never()],
         pred: vec![row(0, &[(0, 1)]); bits as usize],
-        actions: vec![act(&[never()], &[])],
+        actions: vec![act(&[never()], &[(0, row(0, &[]))])],
         bad: bad.to_vec(),
     };
     let mut l = Vec::new();
@@ -1201,6 +1290,7 @@ pub fn counter(bits: u32, bad: &[(u32, u32)]) -> (Text, Vec<u32>) {
             l.extend(t.forced(0, 2, j, 1 << i | 1 << j, 0));
         }
     }
+    l.extend(t.all_ends());
     (t, l)
 }
 
@@ -1238,7 +1328,7 @@ fn graphs(book: &mut Book) {
     // Exactly 513: the tenth action gives {P9} alone, which nothing keeps.
     let (mut t, mut l) = subsets_text(9, 9);
     t.pred.push(row(-50, &[(0, 1)]));
-    t.actions.push(act(&[row(-50, &[(0, 1)])], &[]));
+    t.actions.push(act(&[row(-50, &[(0, 1)])], &[itself(0)]));
     l.extend(lemma(9, 1, 9, 0, 0, &[1, 1]));
     book.judge("513 nodes exactly", &t.words(), &l, "REFUSED 7 AT 512");
     let (p, mut l) = (t.words(), l);
@@ -1282,6 +1372,7 @@ fn graphs(book: &mut Book) {
     let half = [lemma(START, 1, 0, 0, 0, &[0, 1]), lemma(START, 2, 0, 0, 0, &[0, 0])].concat();
     book.judge("one of the two not accepted", &p, &half, "FORBID node 0 bad 0 nodes 2 edges 2");
     t.pred.push(row(0, &[]));
+    // P1 has no terms and is kept: node 0 {P0, not P1} goes to 1 {not P1}, and 1 to 1.
     let apart = [lemma(START, 1, 0, 0, 0, &[0, 1]), lemma(START, 2, 1, 0, 0, &[0, 1])].concat();
     book.judge("goals 1 and 2 of two predicates", &t.words(), &apart, "FORBID node 0 bad 0 nodes 2 edges 2");
     t.bad.clear();
@@ -1289,16 +1380,17 @@ fn graphs(book: &mut Book) {
     book.judge("one node, no actions", &t.words(), &apart, "SAFE nodes 1 edges 0");
     book.judge("empty graph, no actions", &t.words(), &all, "SAFE nodes 0 edges 0");
 
-    // Contradicting lemmas at some nodes only.
+    // Contradicting lemmas at some nodes only. All actions touch all predicates.
     let t = Text {
         vars: vec![(0, 9)],
         init: vec![never()],
         pred: vec![row(0, &[(0, 1)]); 3],
-        actions: vec![act(&[never()], &[]); 3],
+        actions: vec![act(&[never()], &[itself(0)]); 3],
         bad: vec![],
     };
     let p = t.words();
     let l = [
+        t.all_ends(),
         t.forced(START, 1, 0, 0, 0),
         t.forced(0, 1, 1, 0, 1), // {P0} by 0 is {P1}
         t.forced(1, 1, 2, 0, 2), // {P1} by 1 is contradicting
@@ -1312,25 +1404,27 @@ fn graphs(book: &mut Book) {
     book.judge("contradiction and goal 0 at node 1", &p, &l, "SAFE nodes 4 edges 10");
     let l = [l, t.forced(0, 0, 0, 1, 0), t.forced(1, 0, 0, 1, 0)].concat();
     book.judge("and goal 0 at node 3", &p, &l, "SAFE nodes 4 edges 8");
-    // Nothing is kept: an action with no guard and no assignment leads to the empty set.
+    // Nothing is kept of what is touched: an action with no guard that sets the predicate's variable
+    // to itself leads to the empty set.
     let t = Text {
         vars: vec![(0, 9)],
         init: vec![never()],
         pred: vec![row(0, &[(0, 1)])],
-        actions: vec![ActionText::default()],
+        actions: vec![act(&[], &[itself(0)])],
         bad: vec![(0, 1)],
     };
-    let l = t.forced(START, 2, 0, 0, 0);
+    let l = [t.forced(START, 2, 0, 0, 0), t.ends(0)].concat();
     book.judge("nothing is kept", &t.words(), &l, "FORBID node 1 bad 0 nodes 2 edges 2");
     // Loops and repeated targets: 16 actions back to node 0.
     let t = Text { vars: vec![(0, 9)], actions: vec![ActionText::default(); 16], ..Text::default() };
     book.judge("16 loops", &t.words(), &[], "SAFE nodes 1 edges 16");
-    // Predicate 13 alone; both sides of SETS.
+    // Predicate 13 alone; both sides of SETS. All actions touch all predicates: i below 14 leads to
+    // {P_i, not P_(13-i)}, 14 to {P13}, 15 to the empty set, from everywhere.
     let t = Text {
         vars: vec![(0, 9)],
         init: vec![never()],
         pred: vec![row(0, &[(0, 1)]); 14],
-        actions: vec![act(&[never()], &[]); 16],
+        actions: vec![act(&[never()], &[(0, row(0, &[]))]); 16],
         bad: vec![(0x2000, 0)],
     };
     let mut l = Vec::new();
@@ -1340,16 +1434,17 @@ fn graphs(book: &mut Book) {
         l.extend(t.forced(i, 2, 13 - i, 0, 0));
     }
     l.extend(t.forced(14, 1, 13, 0, 0));
-    book.judge("14 predicates, 16 actions", &t.words(), &l, "");
+    book.judge("14 predicates, 16 actions", &t.words(), &l, "FORBID node 0 bad 0 nodes 17 edges 272");
 }
 
 /// The order of findings.
 fn verdicts(book: &mut Book) {
-    // Two variables, four predicates, four actions that can never happen: lemmas at will.
+    // Two variables, four predicates, four actions that can never happen: lemmas at will. Each
+    // predicate speaks of both variables, so that actions 0, 1 and 3 touch all; action 2 touches none.
     let t = Text {
         vars: vec![(0, 10), (-3, 3)],
         init: vec![never()],
-        pred: vec![row(0, &[(0, 1)]); 4],
+        pred: vec![row(0, &[(0, 1), (1, 1)]); 4],
         actions: vec![
             act(&[never()], &[(0, row(50, &[])), (1, row(50, &[]))]),
             act(&[never()], &[(1, row(0, &[]))]),
@@ -1446,21 +1541,18 @@ fn verdicts(book: &mut Book) {
     // Node 1 loops on itself by action 1, with a missing range lemma there.
     book.judge("own node, missing range lemma", &p, &at_zero, "RUNOFF node 1 action 1 variable 1 high nodes 2 edges 4");
 
-    // Paths: a tree with several ways to one node; the first found counts.
+    // Paths: a tree with several ways to one node; the first found counts. All actions touch all
+    // predicates; the ends of actions 0 and 1 are shown everywhere.
     let t = Text {
         vars: vec![(0, 10)],
         init: vec![never()],
         pred: vec![row(0, &[(0, 1)]); 4],
-        actions: vec![
-            act(&[never()], &[]),
-            act(&[never()], &[]),
-            act(&[never()], &[(0, row(0, &[]))]),
-        ],
+        actions: vec![act(&[never()], &[(0, row(0, &[]))]); 3],
         bad: vec![],
     };
     let complete = |f: u32, t_: u32| (f, t_);
     let (f0, t0) = complete(0xF, 0);
-    let mut l = Vec::new();
+    let mut l = [t.ends(0), t.ends(1)].concat();
     // node as a number 0..15 of true predicates; transitions by full premises
     let moves: [(u32, u32, u32); 12] = [
         (0, 0, 1), (0, 1, 2), (0, 2, 0),
@@ -1513,6 +1605,511 @@ fn verdicts(book: &mut Book) {
 }
 
 // ---------------------------------------------------------------------------------------------
+// Request 1: untouched predicates keep their literal
+
+fn request_1(book: &mut Book) {
+    kept_literals(book);
+    touched_literals(book);
+    long_rows(book);
+    numbers_apart(book);
+    two_actions(book);
+    start_lemmas_only(book);
+    opposites(book);
+    opposite_at_one_node(book);
+    kept_premises(book);
+    cues(book);
+    alternate(book);
+    eight_variables(book);
+    kept_graphs(book);
+    lone_nodes(book);
+    superfluous_lemmas(book);
+    rig8_unknown(book);
+}
+
+/// One predicate, known at the start (goal 1: it holds, goal 2: it fails), its opposite forbidden,
+/// and one action. Safe with one node if the action keeps the literal; otherwise it leads to node 1
+/// without literals, which contradicts nothing.
+fn single(vars: usize, pred: RowText, goal: u32, action: ActionText) -> (Text, Vec<u32>) {
+    let t = Text {
+        vars: vec![(0, 9); vars],
+        init: vec![never()],
+        pred: vec![pred],
+        actions: vec![action],
+        bad: vec![if goal == 1 { (1, 0) } else { (0, 1) }],
+    };
+    let l = [t.forced(START, goal, 0, 0, 0), t.ends(0)].concat();
+    (t, l)
+}
+
+/// The sum of these variables is at least 1.
+fn on(variables: &[u32]) -> RowText {
+    row(-1, &variables.iter().map(|v| (*v, 1)).collect::<Vec<_>>())
+}
+
+/// An action that sets these variables to 3.
+fn setting(variables: &[u32]) -> ActionText {
+    act(&[], &variables.iter().map(|v| (*v, row(3, &[]))).collect::<Vec<_>>())
+}
+
+/// "a zero coefficient on every variable that an action sets": back to its own node, with no lemma.
+fn kept_literals(book: &mut Book) {
+    let others = [0, 1, 2, 4, 5, 6, 7];
+    let list = [
+        ("known true, another variable set", 2, on(&[0]), 1, setting(&[1])),
+        ("known false, another variable set", 2, on(&[0]), 2, setting(&[1])),
+        ("known true, the variable before it set", 2, on(&[1]), 1, setting(&[0])),
+        ("known false, two others set", 3, on(&[2]), 2, setting(&[0, 1])),
+        ("known true, nothing set", 1, on(&[0]), 1, setting(&[])),
+        ("known false, nothing set", 1, on(&[0]), 2, setting(&[])),
+        ("no terms, known true, all set", 3, row(0, &[]), 1, setting(&[0, 1, 2])),
+        ("no terms, known false, all set", 3, row(-1, &[]), 2, setting(&[0, 1, 2])),
+        ("no terms, nothing set", 1, row(0, &[]), 1, setting(&[])),
+        ("variables 0 and 2, 1 set", 3, on(&[0, 2]), 1, setting(&[1])),
+        ("guard on its variable", 2, on(&[0]), 1, act(&[on(&[0])], &[(1, row(3, &[]))])),
+        ("its variable read", 2, on(&[0]), 2, act(&[], &[(1, row(0, &[(0, 1)]))])),
+        ("another set to itself", 2, on(&[0]), 1, act(&[], &[itself(1)])),
+        ("8 variables, all but 3 set", 8, on(&[3]), 2, setting(&others)),
+        ("8 variables, all but 3 in the row", 8, on(&others), 1, setting(&[3])),
+        ("8 variables, 7 in the row, 0 to 6 set", 8, on(&[7]), 1, setting(&[0, 1, 2, 3, 4, 5, 6])),
+        ("8 variables, 0 in the row, 7 set", 8, on(&[0]), 2, setting(&[7])),
+    ];
+    for (name, vars, pred, goal, action) in list {
+        let (t, l) = single(vars, pred, goal, action);
+        book.judge(&format!("kept: {name}"), &t.words(), &l, "SAFE nodes 1 edges 1");
+    }
+}
+
+/// A coefficient that isn't zero on one variable that the action sets.
+fn touched_literals(book: &mut Book) {
+    let apart = row(0, &[(0, 1), (1, -1)]);
+    let list = [
+        ("known true", 2, on(&[0]), 1, setting(&[0])),
+        ("known false", 2, on(&[0]), 2, setting(&[0])),
+        ("set to itself", 1, on(&[0]), 1, act(&[], &[itself(0)])),
+        ("set to itself, known false", 1, on(&[0]), 2, act(&[], &[itself(0)])),
+        ("variables 0 and 2, 0 set", 3, on(&[0, 2]), 1, setting(&[0])),
+        ("variables 0 and 2, 2 set", 3, on(&[0, 2]), 1, setting(&[2])),
+        ("variables 0 and 2, 0 and 1 set", 3, on(&[0, 2]), 2, setting(&[0, 1])),
+        ("variables 0 and 2, 1 and 2 set", 3, on(&[0, 2]), 2, setting(&[1, 2])),
+        ("the last of three set", 3, on(&[2]), 1, setting(&[0, 1, 2])),
+        ("coefficient -1", 2, row(5, &[(0, -1)]), 1, setting(&[0])),
+        ("coefficient 1000", 2, row(0, &[(1, 1000)]), 1, setting(&[1])),
+        ("coefficient -1000", 2, row(0, &[(1, -1000)]), 2, setting(&[1])),
+        ("coefficients 1 and -1", 2, apart.clone(), 1, setting(&[0, 1])),
+        ("coefficients 1 and -1, both set to themselves", 2, apart, 1, act(&[], &[itself(0), itself(1)])),
+        ("8 variables, all in the row, 7 set", 8, on(&[0, 1, 2, 3, 4, 5, 6, 7]), 1, setting(&[7])),
+        ("8 variables, 7 in the row, all set", 8, on(&[7]), 2, setting(&[0, 1, 2, 3, 4, 5, 6, 7])),
+    ];
+    for (name, vars, pred, goal, action) in list {
+        let (t, l) = single(vars, pred, goal, action);
+        book.judge(&format!("touched: {name}"), &t.words(), &l, "FORBID node 1 bad 0 nodes 2 edges 2");
+    }
+    let (t, l) = single(1, on(&[0]), 1, setting(&[0]));
+    let l = [l, lemma(0, 1, 0, 0, 0, &[1])].concat(); // -(3-1)-1 = -3
+    book.judge("touched: but shown", &t.words(), &l, "SAFE nodes 1 edges 1");
+}
+
+/// Guard rows and assigned rows of several terms, which speak of all variables; 0 and 3 are set. The
+/// one predicate speaks of each variable in turn.
+fn long_rows(book: &mut Book) {
+    let guards = [on(&[0, 1, 2, 3]), on(&[1, 3]), never()];
+    let sets = [(0, row(1, &[(0, 1), (1, -2), (3, 3)])), (3, row(-7, &[(1, 5), (2, 1), (3, 1)]))];
+    for v in 0..4 {
+        let (t, _) = single(4, on(&[v]), 1 + v % 2, act(&guards, &sets));
+        let ends = [t.forced(0, 3, 0, 0, 0), t.forced(0, 4, 0, 0, 0), t.forced(0, 3, 3, 0, 0), t.forced(0, 4, 3, 0, 0)];
+        let l = [t.forced(START, 1 + v % 2, 0, 0, 0), ends.concat()].concat();
+        if v == 1 || v == 2 {
+            book.judge(&format!("kept: long rows, predicate on {v}"), &t.words(), &l, "SAFE nodes 1 edges 1");
+        } else {
+            book.judge(&format!("touched: long rows, predicate on {v}"), &t.words(), &l, "FORBID node 1 bad 0 nodes 2 edges 2");
+        }
+    }
+}
+
+/// P0 speaks of variable 1 and P1 of variable 0: {P0, P1} goes by an action that sets variable 0 to
+/// {P0}, and that to itself.
+fn numbers_apart(book: &mut Book) {
+    let mut t = Text {
+        vars: vec![(0, 9); 2],
+        init: vec![never()],
+        pred: vec![on(&[1]), on(&[0])],
+        actions: vec![setting(&[0])],
+        bad: vec![(1, 0)],
+    };
+    let l = [t.forced(START, 1, 0, 0, 0), t.forced(START, 1, 1, 0, 0), t.ends(0)].concat();
+    book.judge("kept: predicate 0 on variable 1", &t.words(), &l, "SAFE nodes 2 edges 2");
+    t.bad = vec![(2, 0)];
+    book.judge("touched: predicate 1 on variable 0", &t.words(), &l, "FORBID node 1 bad 0 nodes 2 edges 2");
+}
+
+/// x and y from 0 to 9; P0 x at least 1, P1 y at least 1. The start, x at least 5 and y 0, is
+/// {P0, not P1}. The lemmas are those of the start.
+fn pair(actions: &[ActionText], bad: &[(u32, u32)]) -> (Text, Vec<u32>) {
+    let t = Text {
+        vars: vec![(0, 9); 2],
+        init: vec![row(-5, &[(0, 1)]), row(0, &[(1, -1)])],
+        pred: vec![on(&[0]), on(&[1])],
+        actions: actions.to_vec(),
+        bad: bad.to_vec(),
+    };
+    let holds = lemma(START, 1, 0, 0, 0, &[1, 1, 0]); // -(x-1)-1 + x-5 = -5
+    let fails = lemma(START, 2, 1, 0, 0, &[1, 0, 1]); // y-1 + -y = -1
+    (t, [holds, fails].concat())
+}
+
+/// Actions with different untouched sets. {P0, not P1} goes by the one that sets x to {not P1}, by
+/// the one that sets y to {P0}; each of these by its own action to itself, by the other to the
+/// empty set, node 3. An action that sets nothing leads back.
+fn two_actions(book: &mut Book) {
+    let (x, y, none) = (setting(&[0]), setting(&[1]), setting(&[]));
+    let (p1, not_p0) = ((0, 2), (1, 0));
+    for (name, actions, bad, hand) in [
+        ("x, y, P1 forbidden", vec![x.clone(), y.clone()], p1, "FORBID node 2 bad 0 nodes 4 edges 8"),
+        ("y, x, P1 forbidden", vec![y.clone(), x.clone()], p1, "FORBID node 1 bad 0 nodes 4 edges 8"),
+        ("x, y, not P0 forbidden", vec![x.clone(), y.clone()], not_p0, "FORBID node 1 bad 0 nodes 4 edges 8"),
+        ("y, x, not P0 forbidden", vec![y.clone(), x.clone()], not_p0, "FORBID node 2 bad 0 nodes 4 edges 8"),
+        ("x, none, y, P1 forbidden", vec![x.clone(), none.clone(), y.clone()], p1, "FORBID node 2 bad 0 nodes 4 edges 12"),
+        ("y, none, x, P1 forbidden", vec![y, none, x], p1, "FORBID node 1 bad 0 nodes 4 edges 12"),
+    ] {
+        let (t, l) = pair(&actions, &[bad]);
+        let l = [l, t.all_ends()].concat();
+        book.judge(&format!("two actions: {name}"), &t.words(), &l, hand);
+    }
+}
+
+/// "The start keeps nothing"; what its lemmas show is kept with no other lemma.
+fn start_lemmas_only(book: &mut Book) {
+    let (t, l) = pair(&[setting(&[]), setting(&[])], &[(1, 0), (0, 2)]);
+    let p = t.words();
+    book.judge("start lemmas only", &p, &l, "SAFE nodes 1 edges 2");
+    book.judge("start lemmas only, no lemma at all", &p, &[], "FORBID node 0 bad 0 nodes 1 edges 2");
+    book.judge("start lemmas only, that of P0", &p, &l[..5], "FORBID node 0 bad 1 nodes 1 edges 2");
+    book.judge("start lemmas only, that of P1", &p, &l[5..], "FORBID node 0 bad 0 nodes 1 edges 2");
+    // y set, no lemma for its ends: {P0, not P1} goes to {P0}, and that to itself.
+    let (t, l) = pair(&[setting(&[1])], &[]);
+    book.judge("start lemmas only, y set", &t.words(), &l, "RUNOFF node 0 action 0 variable 1 low nodes 2 edges 2");
+    // The ends are asked for where everything is kept and the action leads back.
+    let (t, l) = single(2, on(&[0]), 1, setting(&[1]));
+    let list = split_lemmas(&l); // the start's, low, high
+    book.judge("own node by what is kept, no ends", &t.words(), &list[0], "RUNOFF node 0 action 0 variable 1 low nodes 1 edges 1");
+    book.judge("own node by what is kept, low only", &t.words(), &without(&list, 2), "RUNOFF node 0 action 0 variable 1 high nodes 1 edges 1");
+    // Goals 1 and 2 of the start.
+    let clash = [l, t.forced(START, 2, 0, 0, 0)].concat();
+    book.judge("start without a successor, action that keeps", &t.words(), &clash, "SAFE nodes 0 edges 0");
+}
+
+/// "A lemma for the opposite literal may still apply; then there is no successor, as before." Action
+/// 0 happens only where x is 0, and sets y to 99, whose high end no lemma can show: safe only
+/// without a successor.
+fn opposites(book: &mut Book) {
+    let mut t = Text {
+        vars: vec![(0, 9); 2],
+        init: vec![never()],
+        pred: vec![on(&[0]), on(&[1])],
+        actions: vec![act(&[row(0, &[(0, -1)])], &[(1, row(99, &[]))])],
+        bad: vec![],
+    };
+    let (holds, fails) = (t.forced(START, 1, 0, 0, 0), t.forced(START, 2, 0, 0, 0));
+    let shown = lemma(0, 2, 0, 0, 0, &[1, 1]); // x-1 + -x = -1
+    let same = lemma(0, 1, 0, 0, 1, &[1, 1, 0]); // -(x-1)-1 + x-1 = -1
+    let cannot = |weight: u32| lemma(0, 0, 0, 0, 1, &[weight, weight]); // x-1 + -x = -1, or 0
+    let unmet = lemma(0, 2, 0, 0, 2, &[1, 0, 1]); // accepted, from P1
+    let (gone, own) = ("SAFE nodes 1 edges 0", "RUNOFF node 0 action 0 variable 1 low nodes 1 edges 1");
+    for (name, lemmas, hand) in [
+        ("kept true, shown false", vec![&holds, &shown], gone),
+        ("kept true, shown false, lemmas turned round", vec![&shown, &holds], gone),
+        ("kept true, shown both ways", vec![&holds, &same, &shown], gone),
+        ("kept true, shown true", vec![&holds, &same], own),
+        ("kept false, shown false", vec![&fails, &shown], own),
+        ("not known, shown false", vec![&shown], "RUNOFF node 0 action 0 variable 1 low nodes 2 edges 2"),
+        ("kept true, opposite not accepted", vec![&holds, &lemma(0, 2, 0, 0, 0, &[0, 0])], own),
+        ("kept true, opposite does not apply", vec![&holds, &unmet], own),
+        ("kept true, goal 0", vec![&holds, &cannot(1)], gone),
+        ("kept true, shown true, goal 0 last", vec![&holds, &same, &cannot(1)], gone),
+        ("kept true, goal 0 not accepted", vec![&holds, &cannot(0)], own),
+        ("kept false, goal 0 does not apply", vec![&fails, &cannot(1)], own),
+    ] {
+        let l: Vec<u32> = lemmas.into_iter().flatten().copied().collect();
+        book.judge(&format!("opposites: {name}"), &t.words(), &l, hand);
+    }
+    t.actions[0].guards = vec![on(&[0])];
+    let l = [fails, lemma(0, 1, 0, 0, 0, &[1, 1])].concat(); // -(x-1)-1 + x-1 = -1
+    book.judge("opposites: kept false, shown true", &t.words(), &l, gone);
+    // P0 is kept, P1 is touched and shown both ways.
+    t.actions[0].guards = vec![never()];
+    let l = [holds, t.forced(0, 1, 1, 0, 0), t.forced(0, 2, 1, 0, 0)].concat();
+    book.judge("opposites: clash on what is touched", &t.words(), &l, gone);
+}
+
+/// Action 0 sets x to 5; action 1 happens where x is 0, sets y to 9, and its ends are shown where P0
+/// fails. 0 {not P0} goes to 1 {P0} and 0; 1 to 1 and, not P0 being shown and P0 kept, none.
+fn opposite_at_one_node(book: &mut Book) {
+    let t = Text {
+        vars: vec![(0, 9); 2],
+        init: vec![row(0, &[(0, -1)])],
+        pred: vec![on(&[0])],
+        actions: vec![act(&[], &[(0, row(5, &[]))]), act(&[row(0, &[(0, -1)])], &[(1, row(9, &[]))])],
+        bad: vec![],
+    };
+    let rest = [
+        lemma(START, 2, 0, 0, 0, &[1, 1]),   // x-1 + -x = -1
+        lemma(0, 1, 0, 0, 0, &[1]),          // -(5-1)-1 = -5
+        t.ends(0),                           // 0-5-1 = -6, 5-9-1 = -5
+        lemma(1, 3, 1, 1, 0, &[1, 0, 0]),    // 0-9-1 = -10
+        lemma(1, 4, 1, 1, 0, &[1, 0, 0]),    // 9-9-1 = -1
+    ]
+    .concat();
+    let l = [rest.clone(), lemma(1, 2, 0, 0, 0, &[1, 1])].concat(); // x-1 + -x = -1
+    book.judge("opposite at node 1 only", &t.words(), &l, "SAFE nodes 2 edges 3");
+    // Without that lemma 1 goes by 1 to itself, where its ends are not shown. Path 0.
+    book.judge("no opposite at node 1", &t.words(), &rest, "RUNOFF node 1 action 1 variable 1 low nodes 2 edges 4");
+}
+
+/// Literals that were kept as premises at the next node: P0 at each. 0 {P0, not P1} goes to 1 {P0},
+/// 2 {P0, P1}, none; 1 and 2 too. What is forbidden speaks of P0 failing.
+fn kept_premises(book: &mut Book) {
+    let absurd = act(&[row(0, &[(0, -1)])], &[(1, row(99, &[]))]); // where x is 0
+    let copy = act(&[], &[(1, row(0, &[(0, 1)]))]); // y := x
+    let (t, start) = pair(&[setting(&[1]), copy, absurd], &[(1, 2), (1, 0)]);
+    let l = [
+        start,
+        t.ends(0),
+        t.ends(1),                     // -x-1 and x-10: at most -1
+        lemma(1, 1, 1, 0, 1, &[1, 1]), // -(x-1)-1 + x-1 = -1
+        lemma(2, 0, 0, 0, 1, &[1, 1]), // x-1 + -x = -1
+    ]
+    .concat();
+    book.judge("kept literals as premises", &t.words(), &l, "SAFE nodes 3 edges 6");
+}
+
+/// A row of cues: x from 0 to 9 and the cue s from 0 to 3. P0 x at least 1; P1, P2, P3 s at least 1,
+/// 2, 3. Cue 0 sets x to 5 and s to 1, cues 1 and 2 set s to 2 and 3, cue 3 takes 1 off x and sets s
+/// to 0. P0 comes with node 1, is kept by cues 1 and 2 and shows the low end of x for cue 3.
+pub fn cue_row() -> (Text, Vec<Vec<u32>>) {
+    let s = |n: i32| row(-n, &[(1, 1)]); // s at least n
+    let to = |n: i32| row(n, &[(1, -1)]); // s at most n
+    let t = Text {
+        vars: vec![(0, 9), (0, 3)],
+        init: vec![row(0, &[(0, -1)]), to(0)],
+        pred: vec![on(&[0]), s(1), s(2), s(3)],
+        actions: vec![
+            act(&[to(0)], &[(0, row(5, &[])), (1, row(1, &[]))]),
+            act(&[s(1), to(1)], &[(1, row(2, &[]))]),
+            act(&[s(2), to(2)], &[(1, row(3, &[]))]),
+            act(&[s(3)], &[(0, row(-1, &[(0, 1)])), (1, row(0, &[]))]),
+        ],
+        bad: vec![],
+    };
+    let mut l = vec![lemma(START, 2, 0, 0, 0, &[1, 1, 0])]; // x-1 + -x = -1
+    l.extend((1..4).map(|i| lemma(START, 2, i, 0, 0, &[1, 0, 1]))); // s-i + -s = -i
+    // When a cue cannot happen: a literal and a guard row leave -1 each.
+    l.push(lemma(0, 0, 0, 0, 2, &[1, 1]));
+    l.push(lemma(1, 0, 0, 2, 0, &[1, 1, 0]));
+    l.push(lemma(1, 0, 0, 0, 4, &[1, 0, 1]));
+    l.push(lemma(2, 0, 0, 4, 0, &[1, 1, 0]));
+    l.push(lemma(2, 0, 0, 0, 8, &[1, 0, 1]));
+    l.push(lemma(3, 0, 0, 8, 0, &[1, 1]));
+    l.push(lemma(0, 1, 0, 0, 0, &[1, 0])); // -(5-1)-1 = -5
+    for cue in 0..4 {
+        let rows = t.actions[cue as usize].guards.len();
+        let m = [vec![1], vec![0; rows]].concat();
+        let after = (cue + 1) % 4;
+        l.extend((1..4).map(|i| lemma(cue, if after < i { 2 } else { 1 }, i, 0, 0, &m)));
+    }
+    l.extend((0..3).flat_map(|cue| split_lemmas(&t.ends(cue))));
+    l.push(lemma(3, 3, 0, 0, 1, &[1, 1, 0])); // -(x-1)-1 + x-1 = -1
+    l.push(lemma(3, 4, 0, 0, 0, &[1, 0])); // x-1-9-1, at most -2
+    l.push(lemma(3, 3, 1, 0, 0, &[1, 0]));
+    l.push(lemma(3, 4, 1, 0, 0, &[1, 0]));
+    (t, l)
+}
+
+/// 0 (all fail) goes by 0 to 1 {P0, P1, not P2, not P3}, that by 1 to 2 {P0, P1, P2, not P3}, that by
+/// 2 to 3 (all hold), that by 3 to 4 {not P1, not P2, not P3}, that by 0 to 1; there are no others.
+fn cues(book: &mut Book) {
+    let (t, l) = cue_row();
+    let p = t.words();
+    book.judge("cues", &p, &l.concat(), "SAFE nodes 5 edges 5");
+    // P0 is not shown, so nothing is there to keep. Path 0 1 2.
+    let l = leave_out(&l, &[lemma_word(0, 1, 0)]);
+    book.judge("cues, P0 not shown", &p, &l, "RUNOFF node 3 action 3 variable 0 low nodes 5 edges 5");
+}
+
+/// 14 predicates, the even ones on variable 0 and the odd ones on variable 1. In fours, two are of
+/// one kind at the start and two of the other. Action 0 keeps the even ones, which make node 1,
+/// action 1 the odd ones, node 2; by the other action these lose all, node 3.
+fn alternate(book: &mut Book) {
+    let mut t = Text {
+        vars: vec![(0, 9); 2],
+        init: vec![never()],
+        pred: (0..14).map(|i| on(&[i % 2])).collect(),
+        actions: vec![setting(&[1]), setting(&[0])],
+        bad: vec![],
+    };
+    let start = |goals: [u32; 4]| (0..14u32).flat_map(|i| t.forced(START, goals[i as usize % 4], i, 0, 0)).collect();
+    let (up, down): (Vec<u32>, Vec<u32>) = (start([1, 1, 2, 2]), start([2, 2, 1, 1]));
+    let ends = t.all_ends();
+    for (name, first, bad, node) in [
+        ("true 0, 1, false 2, 3, not P0 forbidden", &up, (1, 0), 2),
+        ("true 0, 1, false 2, 3, not P13 forbidden", &up, (0x2000, 0), 1),
+        ("true 0, 1, false 2, 3, P2 forbidden", &up, (0, 4), 2),
+        ("true 0, 1, false 2, 3, P3 forbidden", &up, (0, 8), 1),
+        ("false 0, 1, true 2, 3, P0 forbidden", &down, (0, 1), 2),
+        ("false 0, 1, true 2, 3, P13 forbidden", &down, (0, 0x2000), 1),
+        ("false 0, 1, true 2, 3, not P12 and P13 forbidden", &down, (0x1000, 0x2000), 1),
+    ] {
+        t.bad = vec![bad];
+        let hand = format!("FORBID node {node} bad 0 nodes 4 edges 8");
+        book.judge(&format!("alternate: {name}"), &t.words(), &[&first[..], &ends].concat(), &hand);
+    }
+    // All kept, none kept.
+    t.bad = vec![(1, 0), (2, 0), (0, 4), (0, 8), (0, 0x400), (0, 0x800), (0x1000, 0), (0x2000, 0)];
+    t.actions = vec![setting(&[])];
+    book.judge("alternate: nothing set", &t.words(), &up, "SAFE nodes 1 edges 1");
+    t.actions = vec![setting(&[0, 1])];
+    book.judge("alternate: both set", &t.words(), &[up, t.ends(0)].concat(), "FORBID node 1 bad 0 nodes 2 edges 2");
+}
+
+/// Eight variables from 0 to 1, all 0 at the start, and P_v that variable v is 1; action v sets it.
+pub fn eight(value: i32) -> (Text, Vec<u32>) {
+    let t = Text {
+        vars: vec![(0, 1); 8],
+        init: (0..8).map(|v| row(0, &[(v, -1)])).collect(),
+        pred: (0..8).map(|v| on(&[v])).collect(),
+        actions: (0..8).map(|v| act(&[], &[(v, row(value, &[]))])).collect(),
+        bad: vec![],
+    };
+    let mut l = t.all_ends();
+    for v in 0..8 {
+        let mut m = vec![0; 9];
+        (m[0], m[v as usize + 1]) = (1, 1);
+        l.extend(lemma(START, 2, v, 0, 0, &m)); // x-1 + -x = -1
+    }
+    (t, l)
+}
+
+fn eight_variables(book: &mut Book) {
+    // Each action takes one literal away: the nodes are the subsets, those of seven in order.
+    let (mut t, l) = eight(0);
+    book.judge("eight, literals lost", &t.words(), &l, "SAFE nodes 256 edges 2048");
+    t.bad = vec![(0, 0x81), (0, 0x80)];
+    book.judge("eight, literals lost, P7 forbidden", &t.words(), &l, "FORBID node 8 bad 1 nodes 256 edges 2048");
+    // 16 actions: 8 + v does as v.
+    t.actions = [t.actions.clone(), t.actions.clone()].concat();
+    t.bad = vec![(0, 0x40)];
+    let l = [l, (8..16).flat_map(|action| t.ends(action)).collect()].concat();
+    book.judge("eight, 16 actions, P6 forbidden", &t.words(), &l, "FORBID node 7 bad 0 nodes 256 edges 4096");
+    // Each action makes its predicate hold; all others are kept. All hold at the last node, which is
+    // found by the actions in order.
+    let (mut t, l) = eight(1);
+    let l = [l, (0..8).flat_map(|v| lemma(v, 1, v, 0, 0, &[1])).collect()].concat(); // -(1-1)-1 = -1
+    t.bad = vec![(0, 0xFF)];
+    book.judge("eight, literals turned", &t.words(), &l, "FORBID node 255 bad 0 nodes 256 edges 2048");
+}
+
+/// The subsets by what is kept: action i (below `bits`) has the guard P_i, shows P_i and sets
+/// nothing. The actions from `bits` on have no lemma and lead back.
+pub fn kept_subsets(bits: u32, actions: u32) -> (Text, Vec<u32>) {
+    let (mut t, _) = subsets_text(bits, actions);
+    t.actions.iter_mut().for_each(|action| action.sets.clear());
+    let l = (0..bits.min(actions)).flat_map(|i| lemma(i, 1, i, 0, 0, &[1, 1])).collect(); // -P-1 + P = -1
+    (t, l)
+}
+
+/// Graphs made large, or small, by what is kept.
+fn kept_graphs(book: &mut Book) {
+    for (bits, actions, hand) in [
+        (3, 3, "SAFE nodes 8 edges 24"),
+        (9, 9, "SAFE nodes 512 edges 4608"),
+        (9, 16, "SAFE nodes 512 edges 8192"),
+        (10, 10, "REFUSED 7 AT 512"),
+        (14, 16, "REFUSED 7 AT 512"),
+    ] {
+        let (t, l) = kept_subsets(bits, actions);
+        book.judge(&format!("kept subsets {bits}, {actions} actions"), &t.words(), &l, hand);
+    }
+    // Node 511 is the set of all nine, and keeps them: with P9 by action 15 it is the 513th.
+    let (mut t, l) = kept_subsets(9, 16);
+    t.pred.push(row(-50, &[(0, 1)]));
+    let last = [l, t.forced(15, 1, 9, 0, 0x1FF)].concat();
+    book.judge("kept, 513th node from node 511 action 15", &t.words(), &last, "REFUSED 7 AT 512");
+    let none = [last, t.forced(15, 2, 9, 0, 0x1FF)].concat();
+    book.judge("kept, none from node 511 action 15", &t.words(), &none, "SAFE nodes 512 edges 8191");
+    // A counter that sets nothing: bit 0 is kept false and shown true.
+    for bits in [4, 14] {
+        let (mut t, l) = counter(bits, &[(0, 1)]);
+        t.actions[0].sets.clear();
+        let mut list = split_lemmas(&l);
+        list.truncate(list.len() - 2);
+        book.judge(&format!("counter {bits}, nothing set"), &t.words(), &list.concat(), "SAFE nodes 1 edges 0");
+    }
+}
+
+/// The subsets by what is kept, and one node more: the last action happens where x is 0 and touches
+/// all, so it leads from everywhere to the one node where its predicate is known, and there no other
+/// action can happen.
+fn lone_nodes(book: &mut Book) {
+    for (bits, hand) in [(2, "SAFE nodes 5 edges 13"), (8, "SAFE nodes 257 edges 2305"), (9, "REFUSED 7 AT 512")] {
+        let zero = row(0, &[(0, -1)]);
+        let (mut t, mut l) = kept_subsets(bits, bits);
+        t.pred.push(zero.clone());
+        t.actions.push(act(&[zero], &[itself(0)]));
+        l.extend(lemma(bits, 1, bits, 0, 0, &[1, 1])); // x-1 + -x = -1
+        l.extend(t.ends(bits));
+        l.extend((0..bits).flat_map(|i| lemma(i, 0, 0, 0, 1 << bits, &[1, 1]))); // -x + x-(i+1) = -(i+1)
+        book.judge(&format!("kept subsets {bits} and one node"), &t.words(), &l, hand);
+    }
+}
+
+/// "saying that a house-light cue doesn't change a fader predicate": the lemma's goal is a literal
+/// that is among its premises, of a predicate that its action does not touch.
+pub fn superfluous(program: &Program, lemma: &[u32]) -> bool {
+    let (source, index) = (field(lemma[0], 27, 20) as usize, field(lemma[0], 7, 0) as usize);
+    let premises = Literals::of_word(lemma[1]);
+    let own = match field(lemma[0], 19, 16) {
+        1 => premises.known_true >> index & 1 == 1,
+        2 => premises.known_false >> index & 1 == 1,
+        _ => false,
+    };
+    own && program.actions.get(source).is_some_and(|action| {
+        (0..MAX_VARIABLES).all(|v| action.assigned(v).is_none() || program.predicates[index].coefficients[v] == 0)
+    })
+}
+
+/// A lemma list without what request 1 makes superfluous.
+pub fn needed(p: &[u32], l: &[u32]) -> Vec<u32> {
+    let program = crate::program::read(p).expect("a good program");
+    split_lemmas(l).into_iter().filter(|lemma| !superfluous(&program, lemma)).flatten().collect()
+}
+
+/// The same graphs as with all lemmas.
+fn superfluous_lemmas(book: &mut Book) {
+    let home = house().words();
+    let list = house_lemmas();
+    book.judge("house, own lemmas that are needed", &home, &needed(&home, &list.concat()), "SAFE nodes 3 edges 10");
+    // Nor are those needed by which actions 0 and 1 show what they keep: P0 and P1 fail.
+    let words = [lemma_word(0, 2, 0), lemma_word(1, 2, 1), lemma_word(2, 1, 1), lemma_word(2, 2, 1), lemma_word(3, 1, 0), lemma_word(3, 2, 0)];
+    book.judge("house, six own lemmas fewer", &home, &leave_out(&list, &words), "SAFE nodes 3 edges 10");
+    for (name, hand) in [
+        ("house", "SAFE nodes 3 edges 10"),
+        ("bakery", "SAFE nodes 9 edges 14"),
+        ("rig8", "SAFE nodes 500 edges 5600"),
+    ] {
+        let (p, l) = show(name);
+        book.judge(&format!("show {name}, lemmas that are needed"), &p, &needed(&p, &l), hand);
+    }
+}
+
+/// rig8 with P6 and P7 forbidden as well. They are not known to fail for the first time at the node
+/// that action 14 makes of node 7, which 12 makes of node 0. Nodes 1 to 8 are found from 0, 7 each from
+/// 1 and 2, 5 each from 3 and 4, 3 each from 5 and 6: so it is node 39. Path 12 14.
+fn rig8_unknown(book: &mut Book) {
+    let (mut p, l) = show("rig8");
+    p.insert(p.len() - 1, sets_word(0, 0xC0));
+    book.judge("rig8, P6 and P7 forbidden", &p, &needed(&p, &l), "FORBID node 39 bad 3 nodes 500 edges 5600");
+}
+
+// ---------------------------------------------------------------------------------------------
 // Chance
 
 pub struct Dice(u64);
@@ -1535,6 +2132,11 @@ impl Dice {
 
     pub fn between(&mut self, low: i32, high: i32) -> i32 {
         low + self.below((high - low + 1) as u32) as i32
+    }
+
+    /// Each number below n, or not.
+    fn some(&mut self, n: u32) -> Vec<u32> {
+        (0..n).filter(|_| self.below(2) == 0).collect()
     }
 
     fn row(&mut self, vars: usize, constant: i32) -> RowText {
@@ -1632,20 +2234,20 @@ pub fn small(seed: u64) -> (Text, Vec<u32>) {
     (t, l)
 }
 
-/// Lemmas at will over sources that never happen: larger graphs.
+/// Lemmas at will over sources that never happen: larger graphs. Each predicate speaks of both
+/// variables and each action sets one, so that literals are kept by lemmas only.
 pub fn large(seed: u64) -> (Text, Vec<u32>) {
     let mut dice = Dice::new(seed + 5000);
     let preds = 3 + dice.below(12);
     let mut t = Text {
         vars: vec![(0, 3), (-1, 1)],
         init: vec![never()],
-        pred: vec![row(0, &[(0, 1)]); preds as usize],
+        pred: vec![row(0, &[(0, 1), (1, 1)]); preds as usize],
         actions: vec![],
         bad: vec![],
     };
     for _ in 0..1 + dice.below(16) {
-        let sets = if dice.below(3) == 0 { vec![(dice.below(2), row(0, &[]))] } else { vec![] };
-        t.actions.push(act(&[never()], &sets));
+        t.actions.push(act(&[never()], &[(dice.below(2), row(0, &[]))]));
     }
     let actions = t.actions.len() as u32;
     let mut l = Vec::new();
@@ -1677,10 +2279,10 @@ pub fn large(seed: u64) -> (Text, Vec<u32>) {
             l.extend(t.forced(a, 0, 0, 1 << dice.below(preds), 0));
         }
         for (v, _) in t.actions[a as usize].sets.clone() {
-            if dice.below(10) > 0 {
+            if dice.below(30) > 0 {
                 l.extend(t.forced(a, 3, v, 0, 0));
             }
-            if dice.below(10) > 0 {
+            if dice.below(30) > 0 {
                 l.extend(t.forced(a, 4, v, 0, 0));
             }
         }
@@ -1694,6 +2296,40 @@ pub fn large(seed: u64) -> (Text, Vec<u32>) {
     (t, list.into_iter().take(512).flatten().collect())
 }
 
+/// Lemmas at will over predicates of which each action may touch some and keep others: rows over
+/// any of three variables, actions that set any of them. Most ends are shown.
+pub fn mixed(seed: u64) -> (Text, Vec<u32>) {
+    let mut dice = Dice::new(seed + 7000);
+    let mut t = Text { vars: vec![(0, 3); 3], init: vec![never()], ..Text::default() };
+    for _ in 0..2 + dice.below(13) {
+        t.pred.push(on(&dice.some(3)));
+    }
+    for _ in 0..1 + dice.below(16) {
+        let sets: Vec<_> = dice.some(3).into_iter().map(|v| (v, row(1, &[]))).collect();
+        t.actions.push(act(&[never()], &sets));
+    }
+    let preds = t.pred.len() as u32;
+    for _ in 0..dice.below(4) {
+        let known = dice.below(1 << preds);
+        let holds = dice.below(1 << preds) & known;
+        t.bad.push((known & !holds, holds));
+    }
+    let mut l: Vec<u32> = split_lemmas(&t.all_ends()).into_iter().filter(|_| dice.below(60) > 0).flatten().collect();
+    for i in 0..preds {
+        if dice.below(5) > 0 {
+            l.extend(t.forced(START, 1 + dice.below(2), i, 0, 0));
+        }
+    }
+    for a in 0..t.actions.len() as u32 {
+        for _ in 0..dice.below(preds) {
+            let (goal, i, bit) = (1 + dice.below(2), dice.below(preds), 1 << dice.below(preds));
+            let (f, t_) = [(0, 0), (bit, 0), (0, bit)][dice.below(3) as usize];
+            l.extend(t.forced(a, goal, i, f, t_));
+        }
+    }
+    (t, l)
+}
+
 fn random(book: &mut Book) {
     for seed in 0..24 {
         let (t, l) = small(seed);
@@ -1702,6 +2338,10 @@ fn random(book: &mut Book) {
     for seed in 0..20 {
         let (t, l) = large(seed);
         book.judge_with(&format!("large {seed}"), &t.words(), &l, GRAPH + seed as u32 % 3, PATH + seed as u32 % 2, "");
+    }
+    for seed in 0..20 {
+        let (t, l) = mixed(seed);
+        book.judge(&format!("mixed {seed}"), &t.words(), &l, "");
     }
     // Words changed, left out or put in by chance.
     for seed in 0..24u64 {

@@ -5,8 +5,8 @@ use std::process::{Command, Stdio};
 
 use independent::bytes::{lines, show, Shown, SHOW_BYTES, SHOW_WORDS};
 use independent::records::{lent_graph, lent_path, JUDGE};
-use independent::shows::{act, cases, counter, house, house_failing, house_lemmas, lemma, never, row};
-use independent::shows::{subsets, term_word, var_word, Text, FADE, FADE_LEMMAS};
+use independent::shows::{act, cases, counter, house, house_failing, house_lemmas, leave_out, lemma, never, row};
+use independent::shows::{subsets, term_word, var_word, Text, FADE, FADE_LEMMAS, HOUSE_P0_KEPT, HOUSE_P0_UNKNOWN};
 use independent::words::*;
 use independent::{judge, Judged, Refusal};
 
@@ -176,23 +176,24 @@ fn c_all_multipliers_zero() {
     fade_runs_off(&words, 0, false);
 }
 
+const HOUSE_GRAPH: [u32; 18] = [
+    0x8000C000, FIRST, 0xC0000001, 0xC0000002, 0xC0000000, 0xC0000000,
+    0x80004002, 0xB0000000, 0xC0000001, NONE, 0xC0000001, 0xC0000000,
+    0x80008001, 0xB0000001, NONE, 0xC0000002, 0xC0000000, 0xC0000002,
+];
+
 #[test]
 fn house_with_full_lemmas() {
     let logic = house().words();
     let words = file(&logic, &house_lemmas().concat());
-    let graph = [
-        0x8000C000, FIRST, 0xC0000001, 0xC0000002, 0xC0000000, 0xC0000000,
-        0x80004002, 0xB0000000, 0xC0000001, NONE, 0xC0000001, 0xC0000000,
-        0x80008001, 0xB0000001, NONE, 0xC0000002, 0xC0000000, 0xC0000002,
-    ];
     let safe = Judged::Safe { nodes: 3, edges: 10 };
-    verdict(&words, logic.len(), safe, &graph, &[], "SAFE nodes 3 edges 10\n");
+    verdict(&words, logic.len(), safe, &HOUSE_GRAPH, &[], "SAFE nodes 3 edges 10\n");
     // Without "house is not below its low end after action 0": another variable than 0.
     let mut list = house_lemmas();
     list.retain(|l| l[0] != 0x90030001);
     let words = file(&logic, &list.concat());
     let low = Judged::MayRunOff { node: 0, action: 0, variable: 1, high: false, nodes: 3, edges: 10 };
-    verdict(&words, logic.len(), low, &graph, &[], "RUNOFF node 0 action 0 variable 1 low\nPATH\n");
+    verdict(&words, logic.len(), low, &HOUSE_GRAPH, &[], "RUNOFF node 0 action 0 variable 1 low\nPATH\n");
 }
 
 #[test]
@@ -203,22 +204,43 @@ fn d_house_with_no_lemmas() {
     verdict(&logic, logic.len(), forbid, &graph, &[], "FORBID node 0 bad 0\nPATH\n");
 }
 
-/// The counts and the nodes from 3 on are those of these lemmas; node 1 and the path are the table's.
+/// Request 1: "Case (e) of 01 then has the three nodes and ten edges of House with full lemmas, and
+/// is safe."
 #[test]
 fn e_house_without_action_0_failing_p0() {
     let logic = house().words();
     let mut list = house_lemmas();
     list.remove(house_failing(&list));
+    let safe = Judged::Safe { nodes: 3, edges: 10 };
+    verdict(&file(&logic, &list.concat()), logic.len(), safe, &HOUSE_GRAPH, &[], "SAFE nodes 3 edges 10\n");
+}
+
+/// Without the start's lemma on P0 as well nothing of P0 is known at node 0, nor kept. Node 1 is {P1}.
+#[test]
+fn house_with_p0_unknown() {
+    let logic = house().words();
     let graph = [
-        0x8000C000, FIRST, 0xC0000001, 0xC0000002, 0xC0000000, 0xC0000000,
-        0x80000002, 0xB0000000, 0xC0000001, NONE, 0xC0000003, 0xC0000004,
-        0x80008001, 0xB0000001, NONE, 0xC0000002, 0xC0000000, 0xC0000002,
-        0x80004002, 0xB0000012, 0xC0000001, NONE, 0xC0000003, 0xC0000000,
-        0x80008000, 0xB0000013, 0xC0000001, 0xC0000002, 0xC0000000, 0xC0000004,
+        0x80008000, FIRST, 0xC0000001, 0xC0000002, 0xC0000003, 0xC0000000,
+        0x80000002, 0xB0000000, 0xC0000001, NONE, 0xC0000004, 0xC0000000,
+        0x80008001, 0xB0000001, NONE, 0xC0000002, 0xC0000003, 0xC0000002,
+        0x8000C000, 0xB0000002, 0xC0000004, 0xC0000002, 0xC0000003, 0xC0000003,
+        0x80004002, 0xB0000012, 0xC0000004, NONE, 0xC0000004, 0xC0000003,
     ];
     let forbid = Judged::MayForbid { node: 1, bad: 0, nodes: 5, edges: 17 };
-    let words = file(&logic, &list.concat());
+    let words = file(&logic, &leave_out(&house_lemmas(), &HOUSE_P0_UNKNOWN));
     verdict(&words, logic.len(), forbid, &graph, &[0xD0000000], "FORBID node 1 bad 0\nPATH 0\n");
+}
+
+/// Without both lemmas of action 0 on P0 it keeps P0 at node 2 and shows P1: node 3 is {P0, P1}.
+#[test]
+fn house_with_p0_kept() {
+    let logic = house().words();
+    let mut graph = HOUSE_GRAPH.to_vec();
+    graph[14] = 0xC0000003;
+    graph.extend([0x80000003, 0xB0000020, 0xC0000003, NONE, 0xC0000001, 0xC0000002]);
+    let forbid = Judged::MayForbid { node: 3, bad: 0, nodes: 4, edges: 14 };
+    let words = file(&logic, &leave_out(&house_lemmas(), &HOUSE_P0_KEPT));
+    verdict(&words, logic.len(), forbid, &graph, &[0xD0000001, 0xD0000000], "FORBID node 3 bad 0\nPATH 1 0\n");
 }
 
 /// No bytes at all: the empty program, and not a word is put.
@@ -389,17 +411,18 @@ fn no_word_of_kind_15() {
 // Verdicts beyond the document's shows
 
 /// Three nodes: 0 {not P0, not P1} goes by 12 to 1 {P0, not P1}, which goes by 3 to 2 {P0, P1},
-/// which goes by 3 to itself. All else cannot happen.
+/// which goes by 3 to itself. All else cannot happen. The actions touch both predicates.
 #[test]
 fn a_path_of_two_actions() {
     let t = Text {
         vars: vec![(0, 0)],
         init: vec![never()],
-        pred: vec![row(0, &[]), row(1, &[])],
-        actions: vec![act(&[never()], &[]); 16],
+        pred: vec![row(0, &[(0, 1)]), row(1, &[(0, 1)])],
+        actions: vec![act(&[never()], &[(0, row(0, &[]))]); 16],
         bad: vec![(0, 3)],
     };
     let mut lemmas = [t.forced(START, 2, 0, 0, 0), t.forced(START, 2, 1, 0, 0)].concat();
+    lemmas.extend(t.all_ends());
     for action in (0..16).filter(|a| *a != 12 && *a != 3) {
         lemmas.extend(t.forced(action, 0, 0, 0, 0));
     }
@@ -573,6 +596,8 @@ fn the_binary() {
     let fade = bytes_of(&file(&FADE, &FADE_LEMMAS));
     assert_eq!(printed(&fade), "SAFE nodes 1 edges 2\n");
     assert_eq!(printed(&fade[..64]), "RUNOFF node 0 action 0 variable 0 low\nPATH\n");
+    let kept = file(&house().words(), &leave_out(&house_lemmas(), &HOUSE_P0_KEPT));
+    assert_eq!(printed(&bytes_of(&kept)), "FORBID node 3 bad 0\nPATH 1 0\n");
     assert_eq!(printed(&fade[..127]), "ODD BYTES\n");
     assert_eq!(printed(&[]), "REFUSED 2 AT 0\n");
     assert_eq!(printed(&[0; SHOW_BYTES]), "REFUSED 2 AT 0\n");

@@ -8,7 +8,6 @@ use native.Mathlib.Omega.{arith}
 use lib.Dec.{eqb}
 use lib.ListN.{length}
 use borrow.Author.Tests.{eqb-true, eq-eqb, ltb-true}
-use Rattle.integers.proofs.Tests.{and-true}
 use Rattle.grammar.specs.Programs.{Program}
 use Rattle.grammar.specs.WellFormed.{Each, WellFormed}
 use Rattle.runs.specs.Runs.{actionOf}
@@ -18,7 +17,7 @@ use Rattle.lemmas.proofs.LemmaLaws.{same-goal, sets-known, action-rising}
 use Rattle.sets.specs.Sets.{bitOf}
 use Rattle.gather.specs.Gathering.{Claim, placeOf, Placed, cannot, holds, fails, low-end, high-end, Sound, entryOf, gathered, Some}
 use Rattle.gather.proofs.Shown.{never, Shows, shown-by}
-use Rattle.integers.proofs.Tests.{or-cases}
+use Rattle.integers.proofs.Tests.{and-true, or-cases, same-test}
 use Rattle.words.specs.LiteralSets.{literalsIn, has}
 use Rattle.abstraction.specs.Abstraction.{allAmong, lemmaApplies, applies}
 use Rattle.abstraction.specs.Claims.{claimOf, withClaim, claims}
@@ -99,11 +98,6 @@ module _ (p : Program) where
       where
         allowed : (l : Lemma) → LemmaOk p l → Shows source set (goalNumber goal) index (claimOf l) → goalAllowed p source goal index ≡ true
         allowed l o w = rw (← w .0, ← same-goal (l .goal) goal (w .1), ← w .2) (o .goal)
-
-same-test : (x y : Bool) → (x ≡ true → y ≡ true) → (y ≡ true → x ≡ true) → x ≡ y
-same-test true y f b = sym (f refl)
-same-test false true f b = b refl
-same-test false false f b = refl
 
 -- the gathered word says of each goal and index whether a lemma applies
 pub applies-is : (p : Program) → WellFormed p → (ls : List Lemma) → Each (LemmaOk p) ls → (source set : ℕ) (goal : Goal) (index : ℕ) → Placed (goalNumber goal) index

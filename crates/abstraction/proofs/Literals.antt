@@ -7,13 +7,13 @@ use Prim.Native.Nat.{ℕ, zero, suc, _+_, _-_, _*_, _/_, _%_, _^_, _<_, _≤_}
 use native.Mathlib.Omega.{arith}
 use lib.Pow.{pow-add, mod-pow-add}
 use borrow.Author.Tests.{eqb-true, eqb-false, eq-eqb}
-use Rattle.integers.proofs.Tests.{and-true}
 use Rattle.sets.specs.Sets.{bitOf, Member, Subset}
 use Rattle.sets.proofs.Bits.{bit-lt, bit-shr, bit-mod}
-use Rattle.words.specs.LiteralSets.{Literal, B, NotB, has, literalIf, literalsIn, setOf}
+use Rattle.words.specs.LiteralSets.{Literal, B, NotB, predicateOf, has, literalIf, literalsIn, setOf}
+use Rattle.formula.proofs.Laws.{in-append}
 use Rattle.search.proofs.Count.{lt-or-le}
 use Rattle.gather.proofs.Shown.{never}
-use Rattle.integers.proofs.Tests.{or-cases}
+use Rattle.integers.proofs.Tests.{and-true, or-cases, same-test}
 use Rattle.abstraction.specs.Abstraction.{sameLiteral, among, allAmong}
 
 -- ---- the tests are membership
@@ -46,23 +46,14 @@ all-among-is (l ∷ ls) ms =
     )
 
 -- ---- a set's literals
--- a literal's predicate, and its place in a set
-abbrev predicateOf : Literal → ℕ
-predicateOf (B j) = j
-predicateOf (NotB j) = j
-
-abbrev placeIn : Literal → ℕ
+-- a literal's place in a set
+abbrev pub placeIn : Literal → ℕ
 placeIn (B j) = j
 placeIn (NotB j) = 14 + j
 
 if-is : (l m : Literal) (b : Bool) → List·Memᴰ l (literalIf b m) ↔ ((b ≡ true) × (l ≡ m))
 if-is l m true = (λ d. (refl, List·Memᴰ·eq-of-singleton d), λ h. List·Memᴰ·head (h .1))
 if-is l m false = (λ d. absurd (List·Memᴰ·not-nil d), λ h. never (h .0))
-
-in-append : {l : Literal} (xs : List Literal) {ys : List Literal} → List·Memᴰ l xs ⊎ List·Memᴰ l ys → List·Memᴰ l (xs ++ ys)
-in-append [] s = ⊎-elim (λ d. absurd (List·Memᴰ·not-nil d)) (λ d. d) s
-in-append (x ∷ xs) s =
-    ⊎-elim (λ d. ⊎-elim (λ q. List·Memᴰ·head q) (λ q. List·Memᴰ·tail (in-append xs (inl q))) (List·Memᴰ·cases-cons d)) (λ d. List·Memᴰ·tail (in-append xs (inr d))) s
 
 literal-in : (n set : ℕ) (l : Literal) → List·Memᴰ l (literalsIn n set) ↔ ((predicateOf l < n) × Member (placeIn l) set)
 unfolding literalsIn
@@ -81,6 +72,13 @@ literal-in (suc n) set l = (
     last : (m : Literal) → predicateOf m ≡ n → Member (placeIn m) set → List·Memᴰ m (literalIf (has n set) (B n) ++ literalIf (has (14 + n) set) (NotB n))
     last (B j) e m = rw e (in-append (literalIf (has n set) (B n)) (inl (if-is (B n) (B n) (has n set) .1 (eq-eqb (bitOf n set) 1 (rw e at m), refl))))
     last (NotB j) e m = rw e (in-append (literalIf (has n set) (B n)) (inr (if-is (NotB n) (NotB n) (has (14 + n) set) .1 (eq-eqb (bitOf (14 + n) set) 1 (rw e at m), refl))))
+
+-- a literal is one of a set's exactly if the set has its place
+pub among-in : (set : ℕ) (l : Literal) → predicateOf l < 14 → among l (literalsIn 14 set) ≡ has (placeIn l) set
+among-in set l h =
+    let (to, back) = among-is l (literalsIn 14 set) in
+    let (out, into) = literal-in 14 set l in
+    same-test (among l (literalsIn 14 set)) (has (placeIn l) set) (λ e. eq-eqb (bitOf (placeIn l) set) 1 (out (to e) .1)) (λ e. back (into (h, eqb-true (bitOf (placeIn l) set) 1 e)))
 
 place-lt : (l : Literal) → predicateOf l < 14 → placeIn l < 28
 place-lt (B j) h = omega arith

@@ -14,6 +14,7 @@ use lib.ListN.{length}
 use Rattle.words.specs.Words.{payload, word, SETS}
 use Rattle.grammar.specs.Programs.{Program}
 use Rattle.lemmas.specs.Lemmas.{Goal, CannotHappen, HoldsAfter, FailsAfter, goalNumber, Lemma, START, accepted}
+use Rattle.frame.specs.Frame.{untouched}
 use Rattle.words.specs.LiteralSets.{Literal, B, NotB, literalsIn, setOf}
 use Rattle.formula.specs.Formula.{Monomial, False, And, Fact, Disabled, Then, formula3}
 use Rattle.search.specs.Search.{Answer, To, None, Result, explored}
@@ -48,8 +49,9 @@ shown p ls source exp Disabled = applies p ls source exp CannotHappen 0
 shown p ls source exp (Then (B j)) = applies p ls source exp HoldsAfter j
 shown p ls source exp (Then (NotB j)) = applies p ls source exp FailsAfter j
 
+-- Request 1: the literals of the predicates that the action leaves untouched are kept.
 abbrev pub successor : Program → List Lemma → ℕ → List Literal → Monomial
-successor p ls source exp = formula3 (shown p ls source exp) (length (p .predicates))
+successor p ls source exp = formula3 (shown p ls source exp) (untouched p source) (λ m. among m exp) (length (p .predicates))
 
 abbrev pub start : Program → List Lemma → Monomial
 start p ls = successor p ls START []

@@ -2,9 +2,8 @@
 use mathlib.Core.Path.{_≡_, refl, ap, _∙_}
 use mathlib.Core.Bool.{Bool, true, false, not}
 use mathlib.Core.List.{List, [], _∷_, _++_, map}
-use Prim.Native.Nat.{ℕ, zero, suc, _%_, _≤_, _<_}
+use Prim.Native.Nat.{ℕ, suc, _%_, _≤_, _<_}
 use native.Mathlib.Omega.{arith}
-use native.Mathlib.Nat.{not-suc-le-zero, le-of-suc-le-suc}
 use lib.Dec.{eqb}
 use lib.IntN.{ℤ, pos, negsuc, _-ℤ_}
 use lib.ListN.{length, getD, set, replicate}
@@ -12,6 +11,7 @@ use lib.Seq.{sets}
 use borrow.Author.Tests.{ltb-true, eqb-true}
 use mir.Syntax.{w64}
 use mir.Val.{SFits}
+use Rattle.integers.proofs.Fill.{same-default}
 use Rattle.integers.proofs.Laws.{Within, within-fits, within-weaken, sum, opposite, literal}
 use Rattle.words.specs.Words.{word, MULT}
 use Rattle.rows.specs.declared.Row.{Row}
@@ -59,11 +59,6 @@ mults-length [] = refl
 mults-length (m ∷ ms) = ap suc (mults-length ms)
 
 -- ---- the goal's row
-same-default : {A : Type 0} (xs : List A) (k : ℕ) (d e : A) → k < length xs → getD xs k d ≡ getD xs k e
-same-default [] k d e h = absurd (not-suc-le-zero h)
-same-default (x ∷ xs) zero d e h = refl
-same-default (x ∷ xs) (suc k) d e h = same-default xs k d e (le-of-suc-le-suc h)
-
 module _ (p : Program) (ok : WellFormed p) (s : ℕ) where
   predicate-at : (i : ℕ) → i < length (p .predicates) → getD (sets zeroRows 0 (p .predicates)) i noRow ≡ predicate p i
   predicate-at i h = stored-at 14 zeroRow (p .predicates) i noRow h (ok .predicates .few) ∙ same-default (p .predicates) i noRow (constRow (pos 0)) h

@@ -31,7 +31,7 @@ house-graph = record {
   edges = To 1 ∷ To 2 ∷ To 0 ∷ To 0 ∷ To 1 ∷ None ∷ To 1 ∷ To 0 ∷ None ∷ To 2 ∷ To 0 ∷ To 2 ∷ [];
 }
 
-explores-house : graphOf (map entryOf house) 4 ≡ Done house-graph
+explores-house : graphOf (map entryOf house) [] 4 ≡ Done house-graph
 unfolding house house-graph explored visited turns gatherFrom
 explores-house = refl
 

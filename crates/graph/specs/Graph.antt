@@ -1,4 +1,4 @@
--- The abstract state graph of accepted lemmas, which stand in two tables (entries of gather/specs/Gathering).
+-- The abstract state graph of accepted lemmas, which stand in two tables (entries of gather/specs/Gathering), and of the masks of the literals that each action keeps.
 --
 -- answerOf — a successor as the search has it: a node's word is a SETS word
 -- nextOf   — the successor of a node's word by an action
@@ -6,9 +6,10 @@
 -- graphOf  — the graph, or that there are too many nodes
 use Prim.Native.Nat.{ℕ}
 use mathlib.Core.List.{List}
+use lib.ListN.{getD}
 use Rattle.words.specs.Words.{payload, word, SETS}
 use Rattle.words.specs.Limits.{START}
-use Rattle.gather.specs.Gathering.{Entry, gathered, successorOf}
+use Rattle.gather.specs.Gathering.{Entry, gathered, withKept, successorOf}
 use Rattle.gather.specs.declared.Successor.{Successor}
 use Rattle.gather.specs.declared.Successor.the-variants.{Nothing, Set}
 use Rattle.search.specs.Search.{Answer, To, None, Result, explored}
@@ -18,11 +19,11 @@ abbrev pub answerOf : Successor → Answer
 answerOf (Set s) = To (word SETS s)
 answerOf Nothing = None
 
-abbrev pub nextOf : List Entry → ℕ → ℕ → Answer
-nextOf es w j = answerOf (successorOf (gathered j (payload w) es))
+abbrev pub nextOf : List Entry → List ℕ → ℕ → ℕ → Answer
+nextOf es kept w j = answerOf (successorOf (withKept (getD kept j 0) (payload w) (gathered j (payload w) es)))
 
 abbrev pub startOf : List Entry → Answer
 startOf es = answerOf (successorOf (gathered START 0 es))
 
-abbrev pub graphOf : List Entry → ℕ → Result
-graphOf es a = explored (nextOf es) a mostNodes (startOf es)
+abbrev pub graphOf : List Entry → List ℕ → ℕ → Result
+graphOf es kept a = explored (nextOf es kept) a mostNodes (startOf es)

@@ -22,7 +22,7 @@ fn node_word(set: u32) -> u32
     Kind::SETS.word(set)
 }
 
-// The turn of action j at node k, given what is shown there for it.
+// The turn of action j at node k, given what is shown there for it, and kept.
 fn act(
     graph: &mut [u32],
     hints: &mut [u16],
@@ -31,14 +31,14 @@ fn act(
     actions: usize,
     k: usize,
     j: usize,
-    shown: u64,
+    known: u64,
 ) -> Explored
     requires { ⌜ (graphWords ≤ length (now graph)) × (hintCount ≤ length (now hints)) × (nodes ≤ mostNodes) × (actions ≤ 16) × (k < nodes) × (j < actions)
         × (edges ≤ k * actions + j) ⌝ }
-    ensures { λ r. ⌜ Turned (λ h. answered mostNodes h (From k j) (answerOf (successorOf shown))) (now (graph .entry)) actions nodes edges (k * actions + j) r
+    ensures { λ r. ⌜ Turned (λ h. answered mostNodes h (From k j) (answerOf (successorOf known))) (now (graph .entry)) actions nodes edges (k * actions + j) r
         (now (graph .exit)) (k * actions + j + 1) ⌝ }
 {
-    let next = gather::successor_of(shown);
+    let next = gather::successor_of(known);
     match next {
         Successor::Set(set) => {
             let w = node_word(set);
@@ -53,6 +53,7 @@ fn turn(
     premises: &[u32],
     keys: &[u32],
     n: usize,
+    kept: [u32; 16],
     graph: &mut [u32],
     hints: &mut [u16],
     nodes: usize,
@@ -62,16 +63,17 @@ fn turn(
 ) -> Explored
     requires { ⌜ (n ≤ length (now premises)) × (n ≤ length (now keys)) × (graphWords ≤ length (now graph)) × (hintCount ≤ length (now hints))
         × (nodes ≤ mostNodes) × (actions ≤ 16) × (k < nodes) × (edges ≤ k * actions) ⌝ }
-    ensures { λ r. ⌜ Turned (λ h. turns (nextOf (entries (now (premises .entry)) (now (keys .entry)) n)) mostNodes h k actions)
+    ensures { λ r. ⌜ Turned (λ h. turns (nextOf (entries (now (premises .entry)) (now (keys .entry)) n) kept) mostNodes h k actions)
         (now (graph .entry)) actions nodes edges (k * actions) r (now (graph .exit)) (k * actions + actions) ⌝ }
 {
-    let node = records::word_at(&graph[..], actions, k);
-    let shown = gather::gather_all(premises, keys, n, Literals::of(node).0);
+    let node = Literals::of(records::word_at(&graph[..], actions, k)).0;
+    let shown = gather::gather_all(premises, keys, n, node);
     let mut m = nodes;
     let mut x = edges;
     let mut j: usize = 0;
     while j < actions {
-        let r = act(&mut *graph, &mut *hints, m, x, actions, k, j, shown[j]);
+        let known = gather::with_kept(shown[j], node, kept[j]);
+        let r = act(&mut *graph, &mut *hints, m, x, actions, k, j, known);
         let Explored::Whole(c, d) = r else {
             return Explored::Full;
         };
@@ -87,6 +89,7 @@ fn explore_from(
     premises: &[u32],
     keys: &[u32],
     n: usize,
+    kept: [u32; 16],
     graph: &mut [u32],
     hints: &mut [u16],
     actions: usize,
@@ -94,7 +97,7 @@ fn explore_from(
 ) -> Explored
     requires { ⌜ (n ≤ length (now premises)) × (n ≤ length (now keys)) × (graphWords ≤ length (now graph)) × (hintCount ≤ length (now hints))
         × (actions ≤ 16) ⌝ }
-    ensures { λ r. ⌜ Filled actions (explored (nextOf (entries (now (premises .entry)) (now (keys .entry)) n)) actions mostNodes (To start)) r
+    ensures { λ r. ⌜ Filled actions (explored (nextOf (entries (now (premises .entry)) (now (keys .entry)) n) kept) actions mostNodes (To start)) r
         (now (graph .entry)) (now (graph .exit)) ⌝ }
 {
     records::begin(&mut *graph, start);
@@ -106,6 +109,7 @@ fn explore_from(
             premises,
             keys,
             n,
+            kept,
             &mut *graph,
             &mut *hints,
             nodes,
@@ -123,17 +127,18 @@ fn explore_from(
     Explored::Whole(nodes, edges)
 }
 
-// The graph of the first n entries, written into the list's first 9,216 words.
+// The graph of the first n entries and the masks of what each action keeps, written into the list's first 9,216 words.
 pub fn explore(
     premises: &[u32],
     keys: &[u32],
     n: usize,
+    kept: [u32; 16],
     actions: usize,
     graph: &mut [u32],
 ) -> Explored
     requires { ⌜ (n ≤ length (now premises)) × (n ≤ length (now keys)) × (graphWords ≤ length (now graph)) × (actions ≤ 16) ⌝ }
-    ensures { λ r. ⌜ (r ≡ exploredOf (graphOf (entries (now (premises .entry)) (now (keys .entry)) n) actions))
-        × (now (graph .exit) ≡ graphList actions (graphOf (entries (now (premises .entry)) (now (keys .entry)) n) actions) (now (graph .entry))) ⌝ }
+    ensures { λ r. ⌜ (r ≡ exploredOf (graphOf (entries (now (premises .entry)) (now (keys .entry)) n) kept actions))
+        × (now (graph .exit) ≡ graphList actions (graphOf (entries (now (premises .entry)) (now (keys .entry)) n) kept actions) (now (graph .entry))) ⌝ }
 {
     records::clear(&mut *graph, records::ROOM);
     let next = gather::successor_of(gather::gather(
@@ -147,7 +152,7 @@ pub fn explore(
         Successor::Set(set) => {
             let w = node_word(set);
             let mut hints = [0u16; 4096];
-            let r = explore_from(premises, keys, n, &mut *graph, &mut hints[..], actions, w);
+            let r = explore_from(premises, keys, n, kept, &mut *graph, &mut hints[..], actions, w);
             if let Explored::Full = r {
                 records::clear(&mut *graph, records::ROOM);
             }

@@ -1,7 +1,7 @@
 -- A whole graph judged: what the first finding needs, and the verdict and path that it gives.
 use mathlib.Core.Path.{_≡_, refl, sym, ap, subst}
 use mathlib.Core.Bool.{Bool}
-use mathlib.Core.List.{List, [], _∷_, map}
+use mathlib.Core.List.{List, [], _∷_}
 use Prim.Native.Nat.{ℕ, _≤_}
 use native.Mathlib.Omega.{arith}
 use lib.ListN.{length}
@@ -10,7 +10,8 @@ use Rattle.programs.specs.declared.Image.{Image}
 use Rattle.lemmas.specs.Lemmas.{Lemma}
 use Rattle.lemmas.specs.Sources.{theProgram, Held}
 use Rattle.lemmas.proofs.SourceLaws.{counts}
-use Rattle.gather.specs.Gathering.{Entry, entryOf, gathered, successorOf}
+use Rattle.frame.specs.Masks.{masksOf}
+use Rattle.gather.specs.Gathering.{Entry}
 use Rattle.gather.specs.declared.Successor.{Successor}
 use Rattle.gather.specs.declared.Successor.the-variants.{Set}
 use Rattle.gather.specs.declared.Successor.the-variants.{Nothing as NoSet}
@@ -18,9 +19,8 @@ use Rattle.search.specs.Search.{Graph, Done, count, links}
 use Rattle.search.proofs.Theorem.{Whole, whole}
 use Rattle.records.specs.Records.{mostNodes, graphList}
 use Rattle.abstraction.specs.Abstraction.{start, answer}
-use Rattle.abstraction.specs.Claims.{claims}
 use Rattle.abstraction.proofs.ClaimLaws.{applies-is}
-use Rattle.abstraction.proofs.Graphs.{monomialOf, successor-is}
+use Rattle.abstraction.proofs.Graphs.{monomialOf, here, successor-is}
 use Rattle.verdict.specs.Verdicts.{Finding, Forbid, RunOff, hasNext, stepsTo}
 use Rattle.verdict.specs.Working.{Traced, askedEnds, foundOf, given, Judging}
 use Rattle.verdict.proofs.Traces.{traced}
@@ -83,11 +83,11 @@ module _ (ws : List ℕ) {image : Image} (held : Held ws image) {es : List Entry
   pub listed-as : l ≡ graphList (image .actions) (Done g) (r .before)
   listed-as = rw actions-are (r .listed)
 
-  pub judging : {asked : List ℕ} → asked ≡ askedEnds p → Judging p ls g es (image .literals) (image .forbidden) asked (image .actions) l
-  judging a =
-      subst (λ (asked : List ℕ). Judging p ls g es (image .literals) (image .forbidden) asked (image .actions) l) (sym a)
+  pub judging : {asked kept : List ℕ} → asked ≡ askedEnds p → kept ≡ masksOf p → Judging p ls g es (image .literals) (image .forbidden) asked kept (image .actions) l
+  judging {asked} {kept} a m =
+      subst (λ (asked : List ℕ). Judging p ls g es (image .literals) (image .forbidden) asked kept (image .actions) l) (sym a)
       (judged held (λ source set goal index h. rw (r .tables) (applies-is p (r .good) ls (r .each) source set goal index h))
-      (λ source set. rw (r .tables, successor-is p (r .good) ls (r .each) source set) (given-next (successorOf (gathered source set (map entryOf (claims p ls)))))) (r .before) listed-as)
+      (λ source set. rw (r .tables, m, successor-is p (r .good) ls (r .each) source set) (given-next (here p (r .good) ls (r .each) source set))) (r .before) listed-as)
 
   pub image-few : (image .forbidden ≤ 8) × (image .actions ≤ 16)
   image-few = (omega (arith, ap (λ (y : Image). y .forbidden) (held .same), r .good .forbidden .few), omega (arith, actions-are, r .good .actions .few))

@@ -21,6 +21,7 @@ use Rattle.lemmas.specs.LemmaGrammar.{readLemmas}
 use Rattle.lemmas.specs.Sources.{theProgram, listed}
 use Rattle.lemmas.specs.declared.Listed.{Listed}
 use Rattle.lemmas.proofs.SourceLaws.{counts}
+use Rattle.frame.specs.Masks.{masksOf}
 use Rattle.gather.specs.Gathering.{entryOf}
 use Rattle.search.specs.Search.{Graph, Result, Done, Over, count, links}
 use Rattle.records.specs.Records.{graphList}
@@ -134,10 +135,11 @@ module _ (ws lemmas gl : List ℕ) where
             pub actions-few : x .image .actions ≤ 16
             actions-few = omega (arith, actions-are, counts ws (k .held) 0 .5)
 
-            graph-is : graphOf (entriesOf t) (x .image .actions) ≡ graph p ls
-            graph-is = rw (tables-are, actions-are) (same-graph p (k .held .accepted .good) ls (begun .good .each))
+            module _ {masks : List ℕ} (kept : masks ≡ masksOf p) {z : Explored} {l′ : List ℕ} (ex : z ≡ exploredOf (graphOf (entriesOf t) masks (x .image .actions)))
+                (el : l′ ≡ graphList (x .image .actions) (graphOf (entriesOf t) masks (x .image .actions)) gl) where
+              graph-is : graphOf (entriesOf t) masks (x .image .actions) ≡ graph p ls
+              graph-is = rw (tables-are, kept, actions-are) (same-graph p (k .held .accepted .good) ls (begun .good .each))
 
-            module _ {z : Explored} {l′ : List ℕ} (ex : z ≡ exploredOf (graphOf (entriesOf t) (x .image .actions))) (el : l′ ≡ graphList (x .image .actions) (graphOf (entriesOf t) (x .image .actions)) gl) where
               left-is : (r : Result) → graph p ls ≡ r → l′ ≡ graphList (length (p .actions)) r gl
               left-is r q = el ∙ (λ i. graphList (actions-are i) (graph-is i) gl) ∙ ap (λ (m : Result). graphList (length (p .actions)) m gl) q
 
@@ -147,12 +149,13 @@ module _ (ws lemmas gl : List ℕ) where
                   judged-whole pl ∙ ap (λ (r : Result). judgeGraph p ls r gl pl) o ∙ ap (λ (m : List ℕ). keep (Refused Nodes) m pl) (sym (left-is Over o))
 
               pub complete : {nodes edges : ℕ} → z ≡ Whole nodes edges
-                  → Complete p ls ws lemmas gl l′ (record { status = IsReady; image = x .image; tables = t; nodes = nodes; edges = edges })
+                  → Complete p ls ws lemmas gl l′ (record { status = IsReady; image = x .image; tables = t; kept = masks; nodes = nodes; edges = edges })
               complete {nodes} {edges} w =
                   let g = done-whole (graph p ls) nodes edges (ap exploredOf (sym graph-is) ∙ sym ex ∙ w) in
                   record {
                     held = k .held;
                     tabled = T;
+                    masks = kept;
                     made = g .made;
                     ready = record {
                       good = k .held .accepted .good;

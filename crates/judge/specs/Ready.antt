@@ -2,7 +2,7 @@
 --
 -- Ready     — a list holds the graph of a program and its lemmas, whose accepted ones these tables hold
 -- entriesOf — the accepted lemmas that tables hold
--- Complete  — image, tables and counts of a survey are those of the show in two lists of words, and the graph list holds the graph, which Judge judges
+-- Complete  — image, tables, masks and counts of a survey are those of the show in two lists of words, and the graph list holds the graph, which Judge judges
 -- SurveyBy, SurveyOf — what a survey comes to, by its status: complete, or refused as Judge refuses where both lists are long enough
 use mathlib.Core.Path.{_≡_}
 use mathlib.Core.List.{List, map}
@@ -17,6 +17,7 @@ use Rattle.programs.specs.declared.Status.the-variants.{Ready as IsReady}
 use Rattle.lemmas.specs.Lemmas.{Lemma}
 use Rattle.lemmas.specs.LemmaGrammar.{LemmaOk}
 use Rattle.lemmas.specs.Sources.{theProgram, Held}
+use Rattle.frame.specs.Masks.{masksOf}
 use Rattle.gather.specs.Gathering.{Entry, entryOf, entries}
 use Rattle.search.specs.Search.{Graph, Done, count, links}
 use Rattle.records.specs.Records.{graphList}
@@ -44,6 +45,7 @@ entriesOf t = entries (t .premises) (t .keys) (t .count)
 pub record Complete (p : Program) (ls : List Lemma) (ws lemmas gl gl′ : List ℕ) (s : Surveyed) : Type 0 where
   pub held : Held ws (s .image)
   pub tabled : Tabled p ls (s .tables)
+  pub masks : s .kept ≡ masksOf p
   pub made : Graph
   pub ready : Ready p ls made (entriesOf (s .tables)) (s .nodes) (s .edges) gl′
   pub left : gl′ ≡ graphList (length (p .actions)) (Done made) gl

@@ -7,6 +7,7 @@ ghost use Rattle.programs.specs.Calls.{read};
 ghost use Rattle.programs.specs.declared.Status.the-variants.{Failed};
 ghost use Rattle.lemmas.specs.Lemmas.{Lemma};
 ghost use Rattle.lemmas.specs.Sources.{theProgram, Held};
+ghost use Rattle.frame.specs.Masks.{masksOf};
 ghost use Rattle.gather.specs.Gathering.{entries};
 ghost use Rattle.search.specs.Search.{Graph};
 ghost use Rattle.records.specs.Records.{graphWords};
@@ -37,14 +38,15 @@ pub enum Judged {
 fn first_finding(
     words: &[u32],
     image: Image,
+    kept: [u32; 16],
     premises: &[u32],
     keys: &[u32],
     n: usize,
     graph: &[u32],
     nodes: usize,
 ) -> Found
-    requires { ⌜ Held (now words) image × (n ≤ length (now premises)) × (n ≤ length (now keys)) × (graphWords ≤ length (now graph))
-        × ((ls : List Lemma) × (g : Graph) × (edges : ℕ)
+    requires { ⌜ Held (now words) image × (kept ≡ masksOf (theProgram (now words))) × (n ≤ length (now premises)) × (n ≤ length (now keys))
+        × (graphWords ≤ length (now graph)) × ((ls : List Lemma) × (g : Graph) × (edges : ℕ)
         × Ready (theProgram (now words)) ls g (entries (now premises) (now keys) n) nodes edges (now graph)) ⌝ }
     ensures { λ r. ⌜ Within nodes r × ((ls : List Lemma) (g : Graph) (edges : ℕ)
         → Ready (theProgram (now (words .entry))) ls g (entries (now (premises .entry)) (now (keys .entry)) n) nodes edges (now (graph .entry))
@@ -61,6 +63,7 @@ fn first_finding(
         literals,
         forbidden,
         asked,
+        kept,
         actions,
         graph,
         nodes,
@@ -71,6 +74,7 @@ fn first_finding(
 fn judge_graph(
     words: &[u32],
     image: Image,
+    kept: [u32; 16],
     premises: &[u32],
     keys: &[u32],
     n: usize,
@@ -79,7 +83,7 @@ fn judge_graph(
     edges: usize,
     path: &mut [u32],
 ) -> Judged
-    requires { ⌜ Held (now words) image × (n ≤ length (now premises)) × (n ≤ length (now keys))
+    requires { ⌜ Held (now words) image × (kept ≡ masksOf (theProgram (now words))) × (n ≤ length (now premises)) × (n ≤ length (now keys))
         × (graphWords ≤ length (now graph)) × (pathWords ≤ length (now path))
         × ((ls : List Lemma) × (g : Graph) × Ready (theProgram (now words)) ls g (entries (now premises) (now keys) n) nodes edges (now graph)) ⌝ }
     ensures { λ r. ⌜ ((ls : List Lemma) (g : Graph)
@@ -88,7 +92,7 @@ fn judge_graph(
         × (now (path .exit) ≡ pathList (pathTo g (findings (theProgram (now (words .entry))) ls g)) (now (path .entry)))) ⌝ }
 {
     let actions = image.actions;
-    let found = first_finding(words, image, premises, keys, n, graph, nodes);
+    let found = first_finding(words, image, kept, premises, keys, n, graph, nodes);
     match found {
         Found::Nothing => {
             verdict::clear_path(&mut *path);
@@ -110,6 +114,8 @@ pub struct Surveyed {
     pub status: Status,
     pub image: Image,
     pub tables: Tables,
+    // What each action keeps.
+    pub kept: [u32; 16],
     pub nodes: usize,
     pub edges: usize,
 }
@@ -127,6 +133,7 @@ fn stopped(image: Image, why: Refusal) -> Surveyed
         status: Status::Failed(why),
         image,
         tables,
+        kept: [0u32; 16],
         nodes: 0,
         edges: 0,
     }
@@ -158,14 +165,16 @@ pub fn survey(words: &[u32], lemmas: &[u32], graph: &mut [u32]) -> Surveyed
     let premises = tables.premises;
     let keys = tables.keys;
     let n = tables.count;
+    let kept = frame::masks(image);
     let actions = image.actions;
-    let explored = graph::explore(&premises[..], &keys[..], n, actions, &mut *graph);
+    let explored = graph::explore(&premises[..], &keys[..], n, kept, actions, &mut *graph);
     match explored {
         Explored::Full => stopped(image, Refusal::Nodes),
         Explored::Whole(nodes, edges) => Surveyed {
             status: Status::Ready,
             image,
             tables,
+            kept,
             nodes,
             edges,
         },
@@ -196,11 +205,13 @@ pub fn judge(words: &[u32], lemmas: &[u32], graph: &mut [u32], path: &mut [u32])
     let premises = surveyed.tables.premises;
     let keys = surveyed.tables.keys;
     let n = surveyed.tables.count;
+    let kept = surveyed.kept;
     let nodes = surveyed.nodes;
     let edges = surveyed.edges;
     judge_graph(
         words,
         image,
+        kept,
         &premises[..],
         &keys[..],
         n,

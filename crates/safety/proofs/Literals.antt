@@ -45,7 +45,7 @@ module _ (P : Literal → Type 0) where
   same-literal (NotB i) (B j) e h = false-true e
   same-literal (NotB i) (NotB j) e h = rw (eqb-true i j e) h
 
-  among-each : (l : Literal) (ms : List Literal) → Each P ms → among l ms ≡ true → P l
+  pub among-each : (l : Literal) (ms : List Literal) → Each P ms → among l ms ≡ true → P l
   unfolding among
   among-each l [] h e = false-true e
   among-each l (m ∷ ms) h e = ⊎-elim (λ q. same-literal l m q (h .0)) (among-each l ms (h .1)) (or-true (sameLiteral l m) (among l ms) e)

@@ -23,7 +23,7 @@ use Rattle.lemmas.proofs.LemmaLaws.{action-rising}
 use Rattle.lemmas.proofs.HeadLaws.{marks-of}
 use Rattle.sets.specs.Sets.{Member}
 use Rattle.sets.proofs.Bits.{bit-zero}
-use Rattle.gather.specs.Gathering.{Placed, low-end, high-end, Entry, placeOf, gathered, successorOf, askEnds, firstMissing}
+use Rattle.gather.specs.Gathering.{Placed, low-end, high-end, Entry, placeOf, gathered, withKept, successorOf, askEnds, firstMissing}
 use Rattle.gather.proofs.Shown.{never, ask-is, missing-is}
 use Rattle.search.proofs.Count.{lt-or-le, eq-or-ne}
 use Rattle.words.specs.LiteralSets.{literalsIn, has}
@@ -35,24 +35,28 @@ use Rattle.verdict.specs.Working.{endsTo, endsOf, foundOf, endAt, given,
 use Rattle.verdict.proofs.Combinations.{or-right}
 
 -- ---- the loop over the actions
-module _ (asked shown : List ℕ) (k n j : ℕ) (same : firstUnshown asked shown k j (n - j) ≡ firstUnshown asked shown k 0 n) where
+module _ (asked kept shown : List ℕ) (set k n j : ℕ) (same : firstUnshown asked kept shown set k j (n - j) ≡ firstUnshown asked kept shown set k 0 n) where
+  -- what is known of action j
+  abbrev here : ℕ
+  here = withKept (getD kept j 0) set (getD shown j 0)
+
   module _ (h : j < n) where
-    off-at : firstUnshown asked shown k j (n - j)
-        ≡ cond (given (successorOf (getD shown j 0))) (endAt k j (firstMissing (getD asked j 0) (getD shown j 0)) (firstUnshown asked shown k (j + 1) (n - (j + 1)))) (firstUnshown asked shown k (j + 1) (n - (j + 1)))
+    off-at : firstUnshown asked kept shown set k j (n - j)
+        ≡ cond (given (successorOf here)) (endAt k j (firstMissing (getD asked j 0) (getD shown j 0)) (firstUnshown asked kept shown set k (j + 1) (n - (j + 1)))) (firstUnshown asked kept shown set k (j + 1) (n - (j + 1)))
     unfolding firstUnshown
     off-at = let e : n - j ≡ suc (n - (j + 1)) = omega arith in rw (e, add-one j) refl
 
-    pub off-skip : given (successorOf (getD shown j 0)) ≡ false → firstUnshown asked shown k (j + 1) (n - (j + 1)) ≡ firstUnshown asked shown k 0 n
+    pub off-skip : given (successorOf here) ≡ false → firstUnshown asked kept shown set k (j + 1) (n - (j + 1)) ≡ firstUnshown asked kept shown set k 0 n
     off-skip b = sym (off-at ∙ rw b refl) ∙ same
 
-    module _ (b : given (successorOf (getD shown j 0)) ≡ true) (m : ℕ) (is : m ≡ firstMissing (getD asked j 0) (getD shown j 0)) where
-      pub off-kept : 64 ≤ m → firstUnshown asked shown k (j + 1) (n - (j + 1)) ≡ firstUnshown asked shown k 0 n
+    module _ (b : given (successorOf here) ≡ true) (m : ℕ) (is : m ≡ firstMissing (getD asked j 0) (getD shown j 0)) where
+      pub off-kept : 64 ≤ m → firstUnshown asked kept shown set k (j + 1) (n - (j + 1)) ≡ firstUnshown asked kept shown set k 0 n
       off-kept l = sym (off-at ∙ rw (b, ← is, le-ltb m 64 l) refl) ∙ same
 
-      pub off-here : m < 64 → MayRunOff k j (m / 2 % 14) (eqb (m % 2) 1) ≡ firstUnshown asked shown k 0 n
+      pub off-here : m < 64 → MayRunOff k j (m / 2 % 14) (eqb (m % 2) 1) ≡ firstUnshown asked kept shown set k 0 n
       off-here l = sym (off-at ∙ rw (b, ← is, lt-ltb m 64 l) refl) ∙ same
 
-  pub off-end : n ≤ j → Nothing ≡ firstUnshown asked shown k 0 n
+  pub off-end : n ≤ j → Nothing ≡ firstUnshown asked kept shown set k 0 n
   unfolding firstUnshown
   off-end h = let e : n - j ≡ 0 = omega arith in rw e at same
 

@@ -146,11 +146,11 @@ fn first_free(literals: [Literals; 8], n: usize, set: u32) -> usize
     i
 }
 
-// Does what is shown of an action give a successor?
-fn has_successor(shown: u64) -> bool
-    ensures { λ r. ⌜ r ≡ given (successorOf shown) ⌝ }
+// Does what is shown of an action, and kept, give a successor?
+fn has_successor(known: u64) -> bool
+    ensures { λ r. ⌜ r ≡ given (successorOf known) ⌝ }
 {
-    let next = gather::successor_of(shown);
+    let next = gather::successor_of(known);
     match next {
         Successor::Set(_) => true,
         Successor::Nothing => false,
@@ -159,14 +159,21 @@ fn has_successor(shown: u64) -> bool
 
 // The first end of a range that is asked for and not shown at node k, of the actions that have a successor there. The ends of variable v
 // have the places 28 + 2v and 29 + 2v.
-fn first_unshown(asked: [u64; 16], shown: [u64; 16], actions: usize, k: usize) -> Found
+fn first_unshown(
+    asked: [u64; 16],
+    kept: [u32; 16],
+    shown: [u64; 16],
+    actions: usize,
+    set: u32,
+    k: usize,
+) -> Found
     requires { ⌜ actions ≤ 16 ⌝ }
-    ensures { λ r. ⌜ r ≡ firstUnshown asked shown k 0 actions ⌝ }
+    ensures { λ r. ⌜ r ≡ firstUnshown asked kept shown set k 0 actions ⌝ }
 {
     let mut j: usize = 0;
     while j < actions {
         let seen = shown[j];
-        if has_successor(seen) {
+        if has_successor(gather::with_kept(seen, set, kept[j])) {
             let place = gather::first_missing(asked[j], seen);
             if place < 64 {
                 let v = (place / 2 % 14) as usize;
@@ -186,6 +193,7 @@ fn found_at(
     literals: [Literals; 8],
     forbidden: usize,
     asked: [u64; 16],
+    kept: [u32; 16],
     actions: usize,
     graph: &[u32],
     k: usize,
@@ -194,7 +202,7 @@ fn found_at(
         × (k < mostNodes) ⌝ }
     ensures { λ r. ⌜ Within (k + 1) r
         × ((p : Program) (ls : List Lemma) (g : Graph)
-        → Judging p ls g (entries (now (premises .entry)) (now (keys .entry)) n) literals forbidden asked actions (now (graph .entry)) → k < count g
+        → Judging p ls g (entries (now (premises .entry)) (now (keys .entry)) n) literals forbidden asked kept actions (now (graph .entry)) → k < count g
         → r ≡ foundOf (findingsAt p ls g k)) ⌝ }
 {
     let set = records::word_at(graph, actions, k) % 268435456;
@@ -203,10 +211,11 @@ fn found_at(
         return Found::Forbid(k, b);
     }
     let shown = gather::gather_all(premises, keys, n, set);
-    first_unshown(asked, shown, actions, k)
+    first_unshown(asked, kept, shown, actions, set, k)
 }
 
-// What is found first in a graph, of a program's forbidden combinations and the ends that its actions have to keep to.
+// What is found first in a graph, of a program's forbidden combinations and the ends that its actions have to keep to; `kept` has the masks of what each
+// action keeps.
 pub fn first_finding(
     premises: &[u32],
     keys: &[u32],
@@ -214,6 +223,7 @@ pub fn first_finding(
     literals: [Literals; 8],
     forbidden: usize,
     asked: [u64; 16],
+    kept: [u32; 16],
     actions: usize,
     graph: &[u32],
     nodes: usize,
@@ -222,7 +232,7 @@ pub fn first_finding(
         × (nodes ≤ mostNodes) ⌝ }
     ensures { λ r. ⌜ Within nodes r
         × ((p : Program) (ls : List Lemma) (g : Graph)
-        → Judging p ls g (entries (now (premises .entry)) (now (keys .entry)) n) literals forbidden asked actions (now (graph .entry)) → nodes ≡ count g
+        → Judging p ls g (entries (now (premises .entry)) (now (keys .entry)) n) literals forbidden asked kept actions (now (graph .entry)) → nodes ≡ count g
         → r ≡ foundOf (findings p ls g)) ⌝ }
 {
     let mut k: usize = 0;
@@ -234,6 +244,7 @@ pub fn first_finding(
             literals,
             forbidden,
             asked,
+            kept,
             actions,
             graph,
             k,

@@ -1,6 +1,7 @@
 -- The literals in the payload of a SETS word: known-false predicates in bits 27..14 (bit 14 is predicate 0), known-true ones in 13..0.
 --
 -- Literal    — B j, or not B j
+-- predicateOf — the predicate j of either
 -- has        — a bit of a set is one
 -- literalIf  — a literal, where a test holds
 -- literalsIn — the literals of a set, by rising predicate
@@ -14,6 +15,10 @@ use lib.Dec.{eqb}
 pub data Literal : Type 0 where
   B : ℕ → Literal
   NotB : ℕ → Literal
+
+abbrev pub predicateOf : Literal → ℕ
+predicateOf (B j) = j
+predicateOf (NotB j) = j
 
 abbrev pub has : ℕ → ℕ → Bool
 has j set = eqb (set / 2 ^ j % 2) 1

@@ -18,7 +18,7 @@ node-word-requires : tie.Need-node-word-requires
 node-word-requires c κs =
     let p = c .before .before .before in
     let q = p .before .before .before in
-    successor-set (q .args .shown) _ (sym (p .successor-of .ensures) ∙ c .before .next .given .1) .0
+    successor-set (q .args .known) _ (sym (p .successor-of .ensures) ∙ c .before .next .given .1) .0
 
 enter-requires : tie.Need-enter-requires
 enter-requires c κs = search needs
@@ -43,7 +43,7 @@ returns c =
     let s = r .before .before in
     let t = s .before .before .before in
     let a = t .args in
-    turned-as (From (a .k) (a .j)) (answerOf (successorOf (a .shown))) (To (q .node-word .result))
+    turned-as (From (a .k) (a .j)) (answerOf (successorOf (a .known))) (To (q .node-word .result))
     (ap answerOf (sym (s .successor-of .ensures) ∙ r .next .given .1) ∙ ap To (sym (q .node-word .ensures))) (p .enter .ensures .0)
 
 same-length-3 : tie.Need-same-length-3
@@ -55,7 +55,7 @@ returns-2 c =
     let q = p .before .before in
     let r = q .before .before .before in
     let a = r .args in
-    turned-as (From (a .k) (a .j)) (answerOf (successorOf (a .shown))) None (ap answerOf (sym (q .successor-of .ensures) ∙ p .enum-told .given .1)) (c .before .before .enter-none .ensures)
+    turned-as (From (a .k) (a .j)) (answerOf (successorOf (a .known))) None (ap answerOf (sym (q .successor-of .ensures) ∙ p .enum-told .given .1)) (c .before .before .enter-none .ensures)
 
 pub act-spec : {M : Type 1} → statement M
 act-spec =

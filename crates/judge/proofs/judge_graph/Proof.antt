@@ -11,7 +11,7 @@ use Rattle.judge.proofs.judge_graph.Tie as tie
 
 first-finding-requires : tie.Need-first-finding-requires
 first-finding-requires c κs = let s = c .before .before .before .before .before in
-    (s .pre .0, s .pre .1, s .pre .2, s .pre .3, (s .pre .5 .0, s .pre .5 .1, s .args .edges, s .pre .5 .2))
+    (s .pre .0, s .pre .1, s .pre .2, s .pre .3, s .pre .4, (s .pre .6 .0, s .pre .6 .1, s .args .edges, s .pre .6 .2))
 
 enum-told : tie.Need-enum-told
 enum-told c = search needs
@@ -23,19 +23,19 @@ enum-known-found : tie.Need-enum-known-found
 enum-known-found c = search needs
 
 write-path-requires : tie.Need-write-path-requires
-write-path-requires c κs = let s = c .before .before .before .before .before .before .before .before .before .before in let f = image-few (s .args .words .now) (s .pre .0) (s .pre .5 .0) (s .pre .5 .1) (s .pre .5 .2) in
+write-path-requires c κs = let s = c .before .before .before .before .before .before .before .before .before .before in let f = image-few (s .args .words .now) (s .pre .0) (s .pre .6 .0) (s .pre .6 .1) (s .pre .6 .2) in
     let k = rw (c .before .before .found .given .1) at (c .before .before .before .before .first-finding .ensures .0) in
-    let m = nodes-few (s .args .words .now) (s .pre .0) (s .pre .5 .0) (s .pre .5 .1) (s .pre .5 .2) in
-    (s .pre .3, f .1, omega arith, s .pre .4)
+    let m = nodes-few (s .args .words .now) (s .pre .0) (s .pre .6 .0) (s .pre .6 .1) (s .pre .6 .2) in
+    (s .pre .4, f .1, omega arith, s .pre .5)
 
 enum-known-found-2 : tie.Need-enum-known-found-2
 enum-known-found-2 c = search needs
 
 write-path-requires-2 : tie.Need-write-path-requires-2
-write-path-requires-2 c κs = let s = c .before .before .before .before .before .before .before .before .before .before in let f = image-few (s .args .words .now) (s .pre .0) (s .pre .5 .0) (s .pre .5 .1) (s .pre .5 .2) in
+write-path-requires-2 c κs = let s = c .before .before .before .before .before .before .before .before .before .before in let f = image-few (s .args .words .now) (s .pre .0) (s .pre .6 .0) (s .pre .6 .1) (s .pre .6 .2) in
     let k = rw (c .before .before .found2 .given .1) at (c .before .before .before .before .first-finding .ensures .0) in
-    let m = nodes-few (s .args .words .now) (s .pre .0) (s .pre .5 .0) (s .pre .5 .1) (s .pre .5 .2) in
-    (s .pre .3, f .1, omega arith, s .pre .4)
+    let m = nodes-few (s .args .words .now) (s .pre .0) (s .pre .6 .0) (s .pre .6 .1) (s .pre .6 .2) in
+    (s .pre .4, f .1, omega arith, s .pre .5)
 
 same-length : tie.Need-same-length
 same-length c = search needs

@@ -1,3 +1,4 @@
+use Rattle.lemmas.specs.Sources.{theProgram}
 use Rattle.ask.proofs.Asking.{Program-read, program-read}
 use Rattle.judge.proofs.Surveying.{refuses, no-program, no-lemmas, begun, sum-off, actions-few, too-many, complete}
 use borrow.Author.Needs.{needs}
@@ -61,6 +62,12 @@ returns-3 c =
     refuses (f .args .words .now) (f .args .lemmas .now) (f .args .graph .now) (c .stopped3 .result) (c .stopped3 .ensures)
     (sum-off (f .args .words .now) (f .args .lemmas .now) (f .args .graph .now) (q .before .before .before .before .before .before .before .before .load .ensures) (known (q .before .before .before .before .before)) (q .before .before .before .before .list .ensures) (q .before .before .enum-told2 .given .1) (q .tabulate .ensures) (c .before .if1 .taken))
 
+masks-requires : tie.Need-masks-requires
+masks-requires c κs =
+    let q = c .before .before .before in
+    let h = known (q .before .before .before .before .before) .held in
+    (theProgram (q .before .before .before .before .before .before .before .before .before .before .before .before .args .words .now), h .accepted .good, h .same)
+
 slice-aggregate-explore : tie.Need-slice-aggregate-explore
 slice-aggregate-explore c = search needs
 
@@ -69,9 +76,9 @@ slice-aggregate-explore-2 c = search needs
 
 explore-requires : tie.Need-explore-requires
 explore-requires c κs =
-    let q = c .before .before .before .before .before .before in
+    let q = c .before .before .before .before .before .before .before in
     let f = q .before .before .before .before .before .before .before .before .before .before .before .before in
-    (q .tabulate .ensures .few .0, q .tabulate .ensures .few .1, f .pre, actions-few (f .args .words .now) (f .args .lemmas .now) (f .args .graph .now) (q .before .before .before .before .before .before .before .before .load .ensures) (known (q .before .before .before .before .before)) (q .before .before .before .before .list .ensures) (q .before .before .enum-told2 .given .1) (q .tabulate .ensures) (c .before .before .before .before .before .if1 .left))
+    (q .tabulate .ensures .few .0, q .tabulate .ensures .few .1, f .pre, actions-few (f .args .words .now) (f .args .lemmas .now) (f .args .graph .now) (q .before .before .before .before .before .before .before .before .load .ensures) (known (q .before .before .before .before .before)) (q .before .before .before .before .list .ensures) (q .before .before .enum-told2 .given .1) (q .tabulate .ensures) (c .before .before .before .before .before .before .if1 .left))
 
 enum-told-3 : tie.Need-enum-told-3
 enum-told-3 c = search needs
@@ -88,10 +95,11 @@ same-length c = search needs
 returns-4 : tie.Need-returns-4
 returns-4 c =
     let x = c .before .before .before .before .before in
-    let q = x .before .before .before .before .before .before .before in
+    let m = x .before .before .before .before in
+    let q = m .before .before .before .before in
     let f = q .before .before .before .before .before .before .before .before .before .before .before .before in
     refuses (f .args .words .now) (f .args .lemmas .now) (f .args .graph .now) (c .stopped4 .result) (c .stopped4 .ensures)
-    (too-many (f .args .words .now) (f .args .lemmas .now) (f .args .graph .now) (q .before .before .before .before .before .before .before .before .load .ensures) (known (q .before .before .before .before .before)) (q .before .before .before .before .list .ensures) (q .before .before .enum-told2 .given .1) (q .tabulate .ensures) (x .before .before .before .before .before .before .if1 .left) (x .explore .ensures .0) (x .explore .ensures .1) (c .before .enum-told3 .given .1))
+    (too-many (f .args .words .now) (f .args .lemmas .now) (f .args .graph .now) (q .before .before .before .before .before .before .before .before .load .ensures) (known (q .before .before .before .before .before)) (q .before .before .before .before .list .ensures) (q .before .before .enum-told2 .given .1) (q .tabulate .ensures) (m .before .before .before .if1 .left) (m .masks .ensures (theProgram (f .args .words .now)) (known (q .before .before .before .before .before) .held .same)) (x .explore .ensures .0) (x .explore .ensures .1) (c .before .enum-told3 .given .1))
 
 same-length-2 : tie.Need-same-length-2
 same-length-2 c = search needs
@@ -99,9 +107,10 @@ same-length-2 c = search needs
 returns-5 : tie.Need-returns-5
 returns-5 c =
     let x = c .before .before .before .before .before in
-    let q = x .before .before .before .before .before .before .before in
+    let m = x .before .before .before .before in
+    let q = m .before .before .before .before in
     let f = q .before .before .before .before .before .before .before .before .before .before .before .before in
-    complete (f .args .words .now) (f .args .lemmas .now) (f .args .graph .now) (q .before .before .before .before .before .before .before .before .load .ensures) (known (q .before .before .before .before .before)) (q .before .before .before .before .list .ensures) (q .before .before .enum-told2 .given .1) (q .tabulate .ensures) (x .before .before .before .before .before .before .if1 .left) (x .explore .ensures .0) (x .explore .ensures .1) (c .before .explored .given .1)
+    complete (f .args .words .now) (f .args .lemmas .now) (f .args .graph .now) (q .before .before .before .before .before .before .before .before .load .ensures) (known (q .before .before .before .before .before)) (q .before .before .before .before .list .ensures) (q .before .before .enum-told2 .given .1) (q .tabulate .ensures) (m .before .before .before .if1 .left) (m .masks .ensures (theProgram (f .args .words .now)) (known (q .before .before .before .before .before) .held .same)) (x .explore .ensures .0) (x .explore .ensures .1) (c .before .explored .given .1)
 
 pub survey-spec : {M : Type 1} → statement M
 survey-spec =
@@ -120,6 +129,7 @@ survey-spec =
     tabulate-requires
     stopped-requires-3
     returns-3
+    masks-requires
     slice-aggregate-explore
     slice-aggregate-explore-2
     explore-requires

@@ -15,11 +15,11 @@ use Rattle.verdict.proofs.first_finding.Statement.{statement}
 use Rattle.verdict.proofs.first_finding.Tie as tie
 
 abbrev Inv-loop : tie.InvT-loop
-Inv-loop premises keys n literals forbidden asked actions graph nodes k₀ k =
-    (k ≤ nodes) × ((p : Program) (ls : List Lemma) (g : Graph) → Judging p ls g (entries premises keys n) literals forbidden asked actions graph → nodes ≡ count g → Nothing-before p ls g nodes k)
+Inv-loop premises keys n literals forbidden asked kept actions graph nodes k₀ k =
+    (k ≤ nodes) × ((p : Program) (ls : List Lemma) (g : Graph) → Judging p ls g (entries premises keys n) literals forbidden asked kept actions graph → nodes ≡ count g → Nothing-before p ls g nodes k)
 
 abbrev μ-loop : tie.MeasureT-loop
-μ-loop premises keys n literals forbidden asked actions graph nodes k₀ k = nodes - k
+μ-loop premises keys n literals forbidden asked kept actions graph nodes k₀ k = nodes - k
 
 loop-holds : tie.Need-loop-holds Inv-loop μ-loop
 loop-holds c = (omega arith, λ p ls g J e. before-first p ls g _ e)

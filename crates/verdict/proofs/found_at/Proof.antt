@@ -31,7 +31,7 @@ returns-2 c =
     let w = q .before .word-at in
     let a = q .before .before .before .before .before .args in
     let shown = c .before .gather-all in (
-      subst (Within (a .k + 1)) (sym (c .first-unshown .ensures)) (off-within (a .asked) (shown .result) (a .k) 0 (a .actions)),
+      subst (Within (a .k + 1)) (sym (c .first-unshown .ensures)) (off-within (a .asked) (a .kept) (shown .result) _ (a .k) 0 (a .actions)),
       λ p ls g J h. node-off J (a .k) h (w .result) (q .first-free .result) (w .ensures) (q .first-free .ensures) (c .before .before .if1 .left) (shown .result) (shown .ensures) (c .first-unshown .result) (c .first-unshown .ensures),
     )
 

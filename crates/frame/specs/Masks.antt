@@ -1,0 +1,36 @@
+-- The untouched predicates of each action as masks of literals. Only contracts of functions within the project cite these.
+--
+-- clearBelow — coefficients are zero on every variable below v that is marked
+-- withBoth   — a mask, and both literals of predicate j
+-- maskTo     — both literals of each predicate below n for which a test holds
+-- maskBy     — of the predicates that an action leaves untouched, by the marks of the variables that it sets
+-- masksOf    — for each action of a program; 0 past the last one
+use mathlib.Core.Bool.{Bool, true, false, cond, not, _&&_, _||_}
+use mathlib.Core.List.{List, map}
+use Prim.Native.Nat.{ℕ, zero, suc, _+_, _^_}
+use lib.Bits.{bitOr}
+use lib.Dec.{eqb}
+use lib.IntN.{ℤ, pos, natAbs}
+use lib.ListN.{length, getD, replicate}
+use lib.Seq.{sets}
+use Rattle.rows.specs.declared.Row.{Row}
+use Rattle.rows.specs.Bounds.{noRow}
+use Rattle.grammar.specs.Programs.{Action, Program}
+use Rattle.actions.specs.Results.{variablesSet, noneSet}
+
+unfoldable pub clearBelow : List Bool → List ℤ → ℕ → Bool
+clearBelow marks coef zero = true
+clearBelow marks coef (suc v) = clearBelow marks coef v && (not (getD marks v false) || eqb (natAbs (getD coef v (pos 0))) 0)
+
+abbrev pub withBoth : ℕ → ℕ → ℕ
+withBoth w j = bitOr (bitOr w (2 ^ j)) (2 ^ (14 + j))
+
+unfoldable pub maskTo : (ℕ → Bool) → ℕ → ℕ
+maskTo t zero = 0
+maskTo t (suc n) = cond (t n) (withBoth (maskTo t n) n) (maskTo t n)
+
+abbrev pub maskBy : List Row → List Bool → ℕ → ℕ
+maskBy rows marks n = maskTo (λ j. clearBelow marks (getD rows j noRow .coef) 8) n
+
+abbrev pub masksOf : Program → List ℕ
+masksOf p = sets (replicate 16 0) 0 (map (λ a. maskBy (p .predicates) (variablesSet noneSet (a .sets)) (length (p .predicates))) (p .actions))
