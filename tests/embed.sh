@@ -56,8 +56,11 @@ says shows/rig8.words 0 'safe: nodes 500, edges 5600'
 head -c 64 shows/fade.words >"$room/bare"
 says "$room/bare" 1 'action 0 may take variable 0 below its low end at node 0
 actions: none'
-# House without lemma 4, that action 0 makes predicate 0 fail: its words are 49 to 52.
-{ head -c 196 shows/house.words; tail -c +213 shows/house.words; } >"$room/house"
+# House without lemma 4, that predicate 0 fails after action 0 (words 49 to 52): action 0 does not touch it, so its literal is kept.
+{ head -c 196 shows/house.words; tail -c +213 shows/house.words; } >"$room/kept"
+says "$room/kept" 0 'safe: nodes 3, edges 10'
+# Also without lemma 0, that predicate 0 fails at the start (words 30 to 34): there is nothing to keep.
+{ head -c 120 "$room/kept"; tail -c +141 "$room/kept"; } >"$room/house"
 says "$room/house" 1 'may meet forbidden combination 0 at node 1
 actions: 0'
 # Lists that break off, nothing, nine variables, a range upside down, half a lemma.

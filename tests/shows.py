@@ -94,12 +94,12 @@ CHASE = logic([(0, 1)] * 3, [(-1, {0: 1}), (0, {1: -1}), (0, {2: -1})], LAMP,
 CHASE_START = joined([lemma(START, HOLDS, 0, [1, 1, 0, 0]), lemma(START, FAILS, 1, [1, 0, 1, 0]), lemma(START, FAILS, 2, [1, 0, 0, 1])])
 
 
-def chase_step(k):
+def chase_step(k, puts_out=True):
     """What action k is shown to do, without what it leaves alone."""
     n = NEXT[k]
     return joined([
         lemma(k, NEVER, 0, [1, 1], false=[k]),          # -lamp k + (lamp k - 1) = -1
-        lemma(k, FAILS, k, [1, 0]),                     # 0 - 1
+        lemma(k, FAILS, k, [1, 0]) if puts_out else [],  # 0 - 1
         lemma(k, HOLDS, n, [1, 0]),                     # -(1 - 1) - 1
         lemma(k, LOW, k, [1, 0]), lemma(k, HIGH, k, [1, 0]),    # -0 - 1, -(1 - 0) - 1
         lemma(k, LOW, n, [1, 0]), lemma(k, HIGH, n, [1, 0]),    # -1 - 1, -(1 - 1) - 1
@@ -107,7 +107,7 @@ def chase_step(k):
 
 
 def chase_third(k):
-    """The lamp that action k leaves alone stays out: (lamp - 1) - lamp = -1."""
+    """The lamp that action k leaves alone stays out: (lamp - 1) - lamp = -1. It would be kept without this."""
     third = 3 - k - NEXT[k]
     return lemma(k, FAILS, third, [1, 1, 0], false=[third])
 
@@ -116,11 +116,11 @@ def chase_third(k):
 # action 1 can, to node 2 (lamp 2 on); there only action 2, back to node 0. Each pair is contradicted by the lamp that is out.
 show("chase", CHASE + CHASE_START + joined([chase_step(k) + chase_third(k) for k in range(3)]), "SAFE nodes 3 edges 3")
 
-# Without the lemma that action 0 leaves lamp 2 out, node 1 says lamp 0 out, lamp 1 on, and nothing of lamp 2.
-# Node 0 as before: every pair is contradicted, and both ends of what action 0 sets are shown. At node 1 the first pair, 0 and 1, is
-# contradicted by lamp 0; the second, 1 and 2, by nothing. Action 0 leads there.
-show("chase_unshown", CHASE + CHASE_START + joined([chase_step(k) for k in range(3)] + [chase_third(1), chase_third(2)]),
-     "FORBID node 1 bad 1", "PATH 0")
+# Without the lemma that action 1 puts lamp 1 out, node 2 says lamp 0 out, lamp 2 on, and nothing of lamp 1, which action 1 sets.
+# Nodes 0 and 1 as before: every pair is contradicted, and both ends of what actions 0 and 1 set are shown. At node 2 the first pair, 0 and 1,
+# is contradicted by lamp 0; the second, 1 and 2, by nothing. Actions 0 and 1 lead there.
+show("chase_unshown", CHASE + CHASE_START + joined([chase_step(k, k != 1) + chase_third(k) for k in range(3)]),
+     "FORBID node 2 bad 1", "PATH 0 1")
 
 # ---------------------------------------------------------------------------------------------------------------------
 # A grand master (variable 0) and two submasters (1, 2), all 0 at the start. Forbidden: a submaster above the grand master.

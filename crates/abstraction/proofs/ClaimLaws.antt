@@ -18,10 +18,38 @@ use Rattle.sets.specs.Sets.{bitOf}
 use Rattle.gather.specs.Gathering.{Claim, placeOf, Placed, cannot, holds, fails, low-end, high-end, Sound, entryOf, gathered, Some}
 use Rattle.gather.proofs.Shown.{never, Shows, shown-by}
 use Rattle.integers.proofs.Tests.{and-true, or-cases, same-test}
-use Rattle.words.specs.LiteralSets.{literalsIn, has}
+use Rattle.words.specs.LiteralSets.{Literal, literalsIn, has}
 use Rattle.abstraction.specs.Abstraction.{allAmong, lemmaApplies, applies}
 use Rattle.abstraction.specs.Claims.{claimOf, withClaim, claims}
 use Rattle.abstraction.proofs.Literals.{subset-is}
+
+-- ---- what an applying lemma has
+pub record Applied (p : Program) (source : ℕ) (exp : List Literal) (goal : Goal) (index : ℕ) (l : Lemma) : Type 0 where
+  pub accepts : accepted p l ≡ true
+  pub source-is : l .source ≡ source
+  pub goal-is : goalNumber (l .goal) ≡ goalNumber goal
+  pub index-is : l .index ≡ index
+  pub premises-in : allAmong (literalsIn 14 (l .premises .0)) exp ≡ true
+
+pub applied-is : (p : Program) (source : ℕ) (exp : List Literal) (goal : Goal) (index : ℕ) (l : Lemma) → (lemmaApplies p source exp goal index l ≡ true) ↔ Applied p source exp goal index l
+applied-is p source exp goal index l =
+    let a = accepted p l in
+    let s = eqb (l .source) source in
+    let g = eqb (goalNumber (l .goal)) (goalNumber goal) in
+    let i = eqb (l .index) index in (
+      λ h. let (h₁, q) = and-true (a && s && g && i) (allAmong (literalsIn 14 (l .premises .0)) exp) h in
+          let (h₂, qi) = and-true (a && s && g) i h₁ in
+          let (h₃, qg) = and-true (a && s) g h₂ in
+          let (qa, qs) = and-true a s h₃ in
+          record {
+            accepts = qa;
+            source-is = eqb-true (l .source) source qs;
+            goal-is = eqb-true (goalNumber (l .goal)) (goalNumber goal) qg;
+            index-is = eqb-true (l .index) index qi;
+            premises-in = q;
+          },
+      λ w. rw (w .accepts, eq-eqb (l .source) source (w .source-is), eq-eqb (goalNumber (l .goal)) (goalNumber goal) (w .goal-is), eq-eqb (l .index) index (w .index-is), w .premises-in) refl,
+    )
 
 -- ---- a list of claims, perhaps with one before it
 module _ (P : Claim → Type 0) where
@@ -63,25 +91,17 @@ module _ (p : Program) where
   module _ (source set : ℕ) (goal : Goal) (index : ℕ) where
     lemma-is : (l : Lemma) → (lemmaApplies p source (literalsIn 14 set) goal index l ≡ true) ↔ ((accepted p l ≡ true) × Shows source set (goalNumber goal) index (claimOf l))
     lemma-is l =
-        let a = accepted p l in
-        let s = eqb (l .source) source in
-        let g = eqb (goalNumber (l .goal)) (goalNumber goal) in
-        let i = eqb (l .index) index in
-        let (to, back) = subset-is (l .premises .0) set in (
-          λ h. let (h₁, q) = and-true (a && s && g && i) (allAmong (literalsIn 14 (l .premises .0)) (literalsIn 14 set)) h in
-              let (h₂, qi) = and-true (a && s && g) i h₁ in
-              let (h₃, qg) = and-true (a && s) g h₂ in
-              let (qa, qs) = and-true a s h₃ in
-              (qa, (eqb-true (l .source) source qs, eqb-true (goalNumber (l .goal)) (goalNumber goal) qg, eqb-true (l .index) index qi, to q)),
-          λ w. let (qs, qg, qi, q) = w .1 in
-              rw (w .0, eq-eqb (l .source) source qs, eq-eqb (goalNumber (l .goal)) (goalNumber goal) qg, eq-eqb (l .index) index qi, back q) refl,
+        let (to, back) = applied-is p source (literalsIn 14 set) goal index l in
+        let (there, here) = subset-is (l .premises .0) set in (
+          λ h. let w = to h in (w .accepts, (w .source-is, w .goal-is, w .index-is, there (w .premises-in))),
+          λ w. let (qs, qg, qi, q) = w .1 in back (record { accepts = w .0; source-is = qs; goal-is = qg; index-is = qi; premises-in = here q }),
         )
 
-    applied-is : (ls : List Lemma) → (applies p ls source (literalsIn 14 set) goal index ≡ true) ↔ Some (Shows source set (goalNumber goal) index) (claims p ls)
+    list-is : (ls : List Lemma) → (applies p ls source (literalsIn 14 set) goal index ≡ true) ↔ Some (Shows source set (goalNumber goal) index) (claims p ls)
     unfolding applies claims
-    applied-is [] = (λ h. never h, λ w. absurd (List·Memᴰ·not-nil (w .1)))
-    applied-is (l ∷ ls) =
-        let (to, back) = applied-is ls in
+    list-is [] = (λ h. never h, λ w. absurd (List·Memᴰ·not-nil (w .1)))
+    list-is (l ∷ ls) =
+        let (to, back) = list-is ls in
         let (there, here) = lemma-is l in
         let (split, join) = or-cases (lemmaApplies p source (literalsIn 14 set) goal index l) (applies p ls source (literalsIn 14 set) goal index) in
         let (out, into) = some-with (Shows source set (goalNumber goal) index) (accepted p l) (claimOf l) (claims p ls) in (
@@ -92,7 +112,7 @@ module _ (p : Program) where
     -- what applies is allowed
     pub applied-allowed : (ls : List Lemma) → Each (LemmaOk p) ls → applies p ls source (literalsIn 14 set) goal index ≡ true → goalAllowed p source goal index ≡ true
     applied-allowed ls good h =
-        let (c, d, w) = applied-is ls .0 h in
+        let (c, d, w) = list-is ls .0 h in
         let (l, o, e) = claim-told ls good c d in
         allowed l o (subst (Shows source set (goalNumber goal) index) e w)
       where
@@ -105,6 +125,6 @@ pub applies-is : (p : Program) → WellFormed p → (ls : List Lemma) → Each (
 applies-is p ok ls good source set goal index g =
     let word = gathered source set (map entryOf (claims p ls)) in
     let (to, back) = shown-by source set g (claims p ls) (claims-sound p ok ls good) in
-    let (there, here) = applied-is p source set goal index ls in
+    let (there, here) = list-is p source set goal index ls in
     same-test (has (placeOf (goalNumber goal) index) word) (applies p ls source (literalsIn 14 set) goal index)
     (λ h. here (to (eqb-true (bitOf (placeOf (goalNumber goal) index) word) 1 h))) (λ h. eq-eqb (bitOf (placeOf (goalNumber goal) index) word) 1 (back (there h)))

@@ -1,6 +1,8 @@
 pub mod Literals
 pub mod ClaimLaws
 pub mod Graphs
+pub mod Kept
+pub mod Needless
 pub mod Reached
 pub mod Order
 pub mod Demand2

@@ -17,13 +17,13 @@ use Rattle.integers.proofs.Tests.{and-true, or-cases, same-test}
 use Rattle.abstraction.specs.Abstraction.{sameLiteral, among, allAmong}
 
 -- ---- the tests are membership
-same-is : (l m : Literal) → (sameLiteral l m ≡ true) ↔ (l ≡ m)
+pub same-is : (l m : Literal) → (sameLiteral l m ≡ true) ↔ (l ≡ m)
 same-is (B i) (B j) = (λ h. ap B (eqb-true i j h), λ e. eq-eqb i j (cc))
 same-is (B i) (NotB j) = (λ h. never h, λ e. let z : _≡_ {A = ℕ} 0 1 = cc in absurd (omega arith))
 same-is (NotB i) (B j) = (λ h. never h, λ e. let z : _≡_ {A = ℕ} 0 1 = cc in absurd (omega arith))
 same-is (NotB i) (NotB j) = (λ h. ap NotB (eqb-true i j h), λ e. eq-eqb i j (cc))
 
-among-is : (l : Literal) (ms : List Literal) → (among l ms ≡ true) ↔ List·Memᴰ l ms
+pub among-is : (l : Literal) (ms : List Literal) → (among l ms ≡ true) ↔ List·Memᴰ l ms
 unfolding among
 among-is l [] = (λ h. never h, λ d. absurd (List·Memᴰ·not-nil d))
 among-is l (m ∷ ms) =
@@ -34,7 +34,7 @@ among-is l (m ∷ ms) =
       λ d. join (⊎-elim (λ q. inl (back q)) (λ q. inr (here q)) (List·Memᴰ·cases-cons d)),
     )
 
-all-among-is : (ls ms : List Literal) → (allAmong ls ms ≡ true) ↔ ((l : Literal) → List·Memᴰ l ls → List·Memᴰ l ms)
+pub all-among-is : (ls ms : List Literal) → (allAmong ls ms ≡ true) ↔ ((l : Literal) → List·Memᴰ l ls → List·Memᴰ l ms)
 unfolding allAmong
 all-among-is [] ms = (λ h l d. absurd (List·Memᴰ·not-nil d), λ f. refl)
 all-among-is (l ∷ ls) ms =

@@ -95,10 +95,11 @@ unfolding clearBelow
 clear-is marks r zero = (λ h v l. absurd (not-suc-le-zero l), λ h. refl)
 clear-is marks r (suc n) =
     let (to, back) = clear-is marks r n in
-    let zero-here = eqb (natAbs (getD (r .coef) n (pos 0))) 0 in
-    (λ h. let (a, b) = and-true (clearBelow marks (r .coef) n) (not (getD marks n false) || zero-here) h in
-      λ v l m. ⊎-elim (λ e. rw e (eqb-true (natAbs (getD (r .coef) n (pos 0))) 0 (last (getD marks n false) zero-here (rw e at m) b))) (λ lt. to a v lt m) (eq-or-lt-of-le (le-of-suc-le-suc l)),
-    λ h. rw (back (λ v l. h v (omega arith))) (first (getD marks n false) zero-here (λ m. eq-eqb (natAbs (getD (r .coef) n (pos 0))) 0 (h n (omega arith) m))))
+    let zero-here = eqb (natAbs (getD (r .coef) n (pos 0))) 0 in (
+      λ h. let (a, b) = and-true (clearBelow marks (r .coef) n) (not (getD marks n false) || zero-here) h in
+          λ v l m. ⊎-elim (λ e. rw e (eqb-true (natAbs (getD (r .coef) n (pos 0))) 0 (last (getD marks n false) zero-here (rw e at m) b))) (λ lt. to a v lt m) (eq-or-lt-of-le (le-of-suc-le-suc l)),
+      λ h. rw (back (λ v l. h v (omega arith))) (first (getD marks n false) zero-here (λ m. eq-eqb (natAbs (getD (r .coef) n (pos 0))) 0 (h n (omega arith) m))),
+    )
   where
     last : (m z : Bool) → m ≡ true → (not m || z) ≡ true → z ≡ true
     last true z e h = h

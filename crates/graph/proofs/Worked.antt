@@ -1,6 +1,7 @@
--- House, worked by computation: three nodes, and ten edges that lead to a node.
+-- House, worked by computation: three nodes, and ten edges that lead to a node. So it is without the lemmas for what its actions keep.
 use mathlib.Core.Path.{_≡_, refl}
 use mathlib.Core.List.{List, [], _∷_, map}
+use Prim.Native.Nat.{ℕ}
 use Rattle.gather.specs.Gathering.{Claim, entryOf, gatherFrom}
 use Rattle.search.specs.Search.{To, None, Root, From, Graph, Done, linksIn, links, turns, visited, explored}
 use Rattle.graph.specs.Graph.{graphOf}
@@ -38,3 +39,24 @@ explores-house = refl
 ten-edges : links house-graph ≡ 10
 unfolding house-graph linksIn
 ten-edges = refl
+
+-- actions 0 and 3 leave P0 untouched, 1 and 2 P1
+masks : List ℕ
+masks = 0x4001 ∷ 0x8002 ∷ 0x8002 ∷ 0x4001 ∷ []
+
+-- none of the lemmas that an untouched predicate stays as it is
+few : List Claim
+few =
+    record { source = 255; goal = 2; index = 0; premises = 0 }
+    ∷ record { source = 255; goal = 2; index = 1; premises = 0 }
+    ∷ record { source = 0; goal = 0; index = 0; premises = 1 }
+    ∷ record { source = 0; goal = 1; index = 1; premises = 0 }
+    ∷ record { source = 1; goal = 0; index = 0; premises = 2 }
+    ∷ record { source = 1; goal = 1; index = 0; premises = 0 }
+    ∷ record { source = 2; goal = 2; index = 0; premises = 0 }
+    ∷ record { source = 3; goal = 2; index = 1; premises = 0 }
+    ∷ []
+
+keeps-house : graphOf (map entryOf few) masks 4 ≡ Done house-graph
+unfolding few masks house-graph explored visited turns gatherFrom
+keeps-house = refl

@@ -152,7 +152,16 @@ pub fn explore(
         Successor::Set(set) => {
             let w = node_word(set);
             let mut hints = [0u16; 4096];
-            let r = explore_from(premises, keys, n, kept, &mut *graph, &mut hints[..], actions, w);
+            let r = explore_from(
+                premises,
+                keys,
+                n,
+                kept,
+                &mut *graph,
+                &mut hints[..],
+                actions,
+                w,
+            );
             if let Explored::Full = r {
                 records::clear(&mut *graph, records::ROOM);
             }

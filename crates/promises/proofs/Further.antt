@@ -6,9 +6,23 @@
 --   exports::bnv_show(..)               the same, r as the record of numbers showOf; no call's answer is 0          crates/exports/src/lib.rt
 --   streams::next(way, room, at, a)     r ≡ next way room at a                                                      crates/streams/src/lib.rt
 use mathlib.Core.Path.{_≡_}
-use mathlib.Core.List.{List}
-use Prim.Native.Nat.{ℕ, _+_, _%_, _≤_}
-use lib.ListN.{length}
+use mathlib.Core.Bool.{true, false}
+use mathlib.Core.Logic.{_⊎_, _↔_}
+use mathlib.Core.List.{List, _∷_, _++_, List·Memᴰ}
+use Prim.Native.Nat.{ℕ, _+_, _%_, _≤_, _<_}
+use lib.IntN.{ℤ, pos}
+use lib.ListN.{length, getD}
+use Rattle.words.specs.LiteralSets.{Literal, B, NotB, predicateOf, literalsIn}
+use Rattle.rows.specs.declared.Row.{Row}
+use Rattle.rows.specs.Rows.{rowValue}
+use Rattle.grammar.specs.Programs.{Assignment, Program}
+use Rattle.lemmas.specs.Lemmas.{HoldsAfter, FailsAfter, Lemma}
+use Rattle.lemmas.specs.LemmaGrammar.{setsVariable}
+use Rattle.frame.specs.Frame.{zeroOn, untouched}
+use Rattle.formula.specs.Formula.{False, And, Disabled, Then, follows}
+use Rattle.search.specs.Search.{Graph}
+use Rattle.abstraction.specs.Abstraction.{among, shown, successor, graph}
+use Rattle.verdict.specs.Verdicts.{findings}
 use Rattle.judge.specs.declared.Judged.the-variants.{Safe as IsSafe}
 use Rattle.little.specs.LittleEndian.{bytesOf, Below}
 use Rattle.show.specs.declared.Shown.the-variants.{Answered}
@@ -36,3 +50,35 @@ whole-stream = Rattle.streams.proofs.Whole.whole-stream
 -- and it comes to an end: one that is still going has had no more answers than there are bytes and tries
 pub ends-soon : (way : Way) (room done tries : ℕ) (answers : List Answer) → streamed way room (Going 0 0) answers ≡ Going done tries → length answers ≤ room + mostTries
 ends-soon = Rattle.streams.proofs.Whole.ends-soon
+
+-- ---- request 1: untouched predicates keep their literal
+-- a literal is in the successor exactly if an accepted lemma shows it, or the action leaves its predicate untouched and it is a literal of the node
+pub successor-literals : (p : Program) (ls : List Lemma) (k : ℕ) (node next : List Literal) → successor p ls k node ≡ And next → (m : Literal)
+    → List·Memᴰ m next ↔ ((predicateOf m < length (p .predicates))
+    × ((shown p ls k node (Then m) ≡ true) ⊎ ((untouched p k (predicateOf m) ≡ true) × List·Memᴰ m node)))
+successor-literals p ls k node next e = Rattle.abstraction.proofs.Kept.successor-literals p ls k node e
+
+-- there is none exactly if a lemma shows that the action cannot happen, or both literals of a predicate follow
+pub no-successor : (p : Program) (ls : List Lemma) (k : ℕ) (node : List Literal) → let known = follows (shown p ls k node) (untouched p k) (λ m. among m node) in
+    (successor p ls k node ≡ False)
+    ↔ ((shown p ls k node Disabled ≡ true) ⊎ ((j : ℕ) × (j < length (p .predicates)) × (known (B j) ≡ true) × (known (NotB j) ≡ true)))
+no-successor p ls k node = Rattle.formula.proofs.Laws.false-is (shown p ls k node) (untouched p k) (λ m. among m node) (length (p .predicates))
+
+-- so a lemma for the opposite of a literal that is kept still gives no successor
+pub opposed-none : (p : Program) (ls : List Lemma) (k : ℕ) (node : List Literal) (j : ℕ) → j < length (p .predicates) → untouched p k j ≡ true
+    → (List·Memᴰ (B j) node × (shown p ls k node (Then (NotB j)) ≡ true)) ⊎ (List·Memᴰ (NotB j) node × (shown p ls k node (Then (B j)) ≡ true))
+    → successor p ls k node ≡ False
+opposed-none = Rattle.abstraction.proofs.Kept.opposed-none
+
+-- the law behind it: a row with a zero coefficient on every variable that is set keeps its value, at any new state that agrees with the old one on the others
+pub frame : (ss : List Assignment) (r : Row) (s t : List ℤ) → zeroOn ss r ≡ true
+    → ((v : ℕ) → setsVariable ss v ≡ false → getD t v (pos 0) ≡ getD s v (pos 0)) → rowValue r t ≡ rowValue r s
+frame = Rattle.frame.proofs.Frame.frame
+
+-- a lemma that says of an untouched predicate what stands among its own premises can be left out: graph and findings stay
+pub needless-lemma : (p : Program) (xs ys : List Lemma) (l : Lemma) (m : Literal)
+    → ((l .goal ≡ HoldsAfter) × (m ≡ B (l .index))) ⊎ ((l .goal ≡ FailsAfter) × (m ≡ NotB (l .index)))
+    → untouched p (l .source) (predicateOf m) ≡ true → List·Memᴰ m (literalsIn 14 (l .premises .0))
+    → (graph p (xs ++ (l ∷ ys)) ≡ graph p (xs ++ ys)) × ((g : Graph) → findings p (xs ++ (l ∷ ys)) g ≡ findings p (xs ++ ys) g)
+needless-lemma p xs ys l m says free own =
+    (Rattle.abstraction.proofs.Needless.graph-same p xs ys l m says free own, Rattle.verdict.proofs.Needless.findings-same p xs ys l m says free own)

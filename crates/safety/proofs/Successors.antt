@@ -5,16 +5,14 @@ use mathlib.Core.Logic.{⊎-elim}
 use mathlib.Core.List.{List, [], _∷_}
 use Prim.Native.Nat.{ℕ, zero, suc, _≤_, _<_}
 use native.Mathlib.Omega.{arith}
-use lib.Dec.{eqb}
 use lib.IntN.{ℤ}
 use lib.ListN.{length}
-use borrow.Author.Tests.{eqb-true}
 use Rattle.integers.proofs.Tests.{and-true, or-true, false-true}
 use Rattle.rows.specs.Rows.{holds}
 use Rattle.grammar.specs.Programs.{Program}
 use Rattle.grammar.specs.WellFormed.{Each, WellFormed}
 use Rattle.runs.specs.Runs.{Inside, newState, actionOf, predicate}
-use Rattle.lemmas.specs.Lemmas.{Goal, CannotHappen, HoldsAfter, FailsAfter, goalNumber, Lemma, accepted}
+use Rattle.lemmas.specs.Lemmas.{Goal, CannotHappen, HoldsAfter, FailsAfter, Lemma}
 use Rattle.lemmas.specs.LemmaGrammar.{LemmaOk}
 use Rattle.lemmas.specs.Truth.{happens, Says}
 use Rattle.lemmas.proofs.LemmaLaws.{same-goal}
@@ -23,7 +21,8 @@ use Rattle.words.specs.LiteralSets.{Literal, B, NotB, predicateOf, literalsIn}
 use Rattle.frame.specs.Frame.{untouched}
 use Rattle.frame.proofs.Frame.{untouched-holds}
 use Rattle.formula.specs.Formula.{Monomial, False, And, Then, and, follows, conjunct, conjuncts}
-use Rattle.abstraction.specs.Abstraction.{among, allAmong, lemmaApplies, applies, shown, successor}
+use Rattle.abstraction.specs.Abstraction.{among, lemmaApplies, applies, shown, successor}
+use Rattle.abstraction.proofs.ClaimLaws.{applied-is}
 use Rattle.safety.proofs.Literals.{TrueAt, Right, each-append, among-each, all-among-each, met}
 
 -- a monomial is true at a state: it is not false, and its literals are true there
@@ -63,19 +62,11 @@ module _ (p : Program) (ok : WellFormed p) (s : List ℤ) (inside : Inside p s) 
 
   lemma-claims : (l : Lemma) → LemmaOk p l → (goal : Goal) (index : ℕ) → lemmaApplies p source exp goal index l ≡ true → Says p goal index after
   lemma-claims l good goal index e =
-      let a = accepted p l in
-      let b = eqb (l .source) source in
-      let c = eqb (goalNumber (l .goal)) (goalNumber goal) in
-      let d = eqb (l .index) index in
-      let premises = literalsIn 14 (l .premises .0) in
-      let (e₁, all) = and-true (a && b && c && d) (allAmong premises exp) e in
-      let (e₂, index-is) = and-true (a && b && c) d e₁ in
-      let (e₃, goal-is) = and-true (a && b) c e₂ in
-      let (yes-accepted, source-is) = and-true a b e₃ in
-      let same = eqb-true (l .source) source source-is in
-      rw (same, same-goal (l .goal) goal (eqb-true (goalNumber (l .goal)) (goalNumber goal) goal-is), eqb-true (l .index) index index-is) at
-      (accepted-true p ok l good yes-accepted s inside
-      (met p s (l .premises) (ok .predicates .few) (all-among-each (TrueAt p s) premises exp true-there all))
+      let w = applied-is p source exp goal index l .0 e in
+      let same = w .source-is in
+      rw (same, same-goal (l .goal) goal (w .goal-is), w .index-is) at
+      (accepted-true p ok l good (w .accepts) s inside
+      (met p s (l .premises) (ok .predicates .few) (all-among-each (TrueAt p s) (literalsIn 14 (l .premises .0)) exp true-there (w .premises-in)))
       (rw same may))
 
   -- what an applying lemma of the list claims

@@ -14,7 +14,7 @@ use lib.Dec.{ltb}
 use lib.ListN.{length, getD, drop, drop-of-length-le}
 use lib.Seq.{drop-cons}
 use borrow.Author.Tests.{eqb-true, eq-eqb, lt-ltb, le-ltb}
-use Rattle.integers.proofs.Tests.{or-true}
+use Rattle.integers.proofs.Tests.{or-true, same-test}
 use Rattle.words.specs.Words.{noLiterals}
 use Rattle.words.specs.declared.Literals.{Literals}
 use Rattle.grammar.specs.WellFormed.{Each, LiteralsOk}
@@ -31,11 +31,6 @@ use Rattle.verdict.specs.Working.{foundOf, firstFree}
 pub or-right : (a b : Bool) → b ≡ true → (a || b) ≡ true
 or-right true b h = refl
 or-right false b h = h
-
-same-test : (a b : Bool) → (a ≡ true → b ≡ true) → (b ≡ true → a ≡ true) → a ≡ b
-same-test true b f g = sym (f refl)
-same-test false true f g = g refl
-same-test false false f g = refl
 
 ltb-suc : (m n : ℕ) → ltb (suc m) (suc n) ≡ ltb m n
 ltb-suc m n = ⊎-elim (λ h. rw (lt-ltb m n h) (lt-ltb (suc m) (suc n) (omega arith))) (λ h. rw (le-ltb m n h) (le-ltb (suc m) (suc n) (omega arith))) (lt-or-le m n)

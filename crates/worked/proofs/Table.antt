@@ -27,6 +27,7 @@ use Rattle.lemmas.specs.Lemmas.{Lemma}
 use Rattle.lemmas.specs.LemmaGrammar.{readLemmas, setsVariable, lemma, list}
 use Rattle.ask.specs.Calls.{noLemma, ask}
 use Rattle.ask.specs.declared.Asked.the-variants.{NotAccepted}
+use Rattle.frame.specs.Frame.{zeroOn}
 use Rattle.formula.specs.Formula.{conjuncts}
 use Rattle.search.specs.Search.{linksIn, turns, visited, explored}
 use Rattle.search.specs.Paths.{back}
@@ -40,7 +41,7 @@ use Rattle.judge.specs.Calls.{Judgement, judgeProgram, judge}
 use Rattle.judge.specs.declared.Judged.{Judged}
 use Rattle.judge.specs.declared.Judged.the-variants.{Safe, MayForbid, MayRunOff}
 use Rattle.worked.specs.Shows.{fade, fadeLemmas, fadeOthers, house}
-use Rattle.worked.specs.MoreLemmas.{fadeFirstZero, houseLemmas, houseBefore, houseBehind}
+use Rattle.worked.specs.MoreLemmas.{fadeFirstZero, houseLemmas, houseStart, houseBefore, houseBehind}
 use Rattle.worked.proofs.Zeros.{Zeros, zeros-not-accepted}
 
 abbrev pub fadeRecords : List ℕ
@@ -50,14 +51,14 @@ fadeRecords = 0x80000000 ∷ 0xB0001FFF ∷ 0xC0000000 ∷ 0xC0000000 ∷ []
 abbrev pub bareRecords : List ℕ
 bareRecords = 0x80000000 ∷ 0xB0001FFF ∷ 0xC0000000 ∷ 0xC0000000 ∷ 0xC0000000 ∷ 0xC0000000 ∷ []
 
--- without the lemma for action 0 that P0 fails afterwards
+-- without the lemmas that P0 fails at the start and by action 0
 abbrev pub cutRecords : List ℕ
 cutRecords =
-    0x8000C000 ∷ 0xB0001FFF ∷ 0xC0000001 ∷ 0xC0000002 ∷ 0xC0000000 ∷ 0xC0000000
-    ∷ 0x80000002 ∷ 0xB0000000 ∷ 0xC0000001 ∷ 0xCFFFFFFF ∷ 0xC0000003 ∷ 0xC0000004
-    ∷ 0x80008001 ∷ 0xB0000001 ∷ 0xCFFFFFFF ∷ 0xC0000002 ∷ 0xC0000000 ∷ 0xC0000002
-    ∷ 0x80004002 ∷ 0xB0000012 ∷ 0xC0000001 ∷ 0xCFFFFFFF ∷ 0xC0000003 ∷ 0xC0000000
-    ∷ 0x80008000 ∷ 0xB0000013 ∷ 0xC0000001 ∷ 0xC0000002 ∷ 0xC0000000 ∷ 0xC0000004 ∷ []
+    0x80008000 ∷ 0xB0001FFF ∷ 0xC0000001 ∷ 0xC0000002 ∷ 0xC0000003 ∷ 0xC0000000
+    ∷ 0x80000002 ∷ 0xB0000000 ∷ 0xC0000001 ∷ 0xCFFFFFFF ∷ 0xC0000004 ∷ 0xC0000000
+    ∷ 0x80008001 ∷ 0xB0000001 ∷ 0xCFFFFFFF ∷ 0xC0000002 ∷ 0xC0000003 ∷ 0xC0000002
+    ∷ 0x8000C000 ∷ 0xB0000002 ∷ 0xC0000004 ∷ 0xC0000002 ∷ 0xC0000003 ∷ 0xC0000003
+    ∷ 0x80004002 ∷ 0xB0000012 ∷ 0xC0000004 ∷ 0xCFFFFFFF ∷ 0xC0000004 ∷ 0xC0000003 ∷ []
 
 abbrev pub houseRecords : List ℕ
 houseRecords =
@@ -98,8 +99,10 @@ pub record Table : Type 0 where
   pub c-fade : ask fade (fadeFirstZero ++ fadeOthers) 0 ≡ NotAccepted
   -- (d) House with no lemmas, forbids at node 0, empty path
   pub d : Judges house [] (MayForbid 0 0 1 4) bareRecords []
-  -- (e) House without lemmas for action 0 failing P0: node 1 is 80000002, path 0
-  pub e : Judges house (houseBefore ++ houseBehind) (MayForbid 1 0 5 17) cutRecords (0xD0000000 ∷ [])
+  -- (e) House without lemmas for action 0 failing P0: by request 1 the three nodes and ten edges of House with full lemmas, and safe
+  pub e : Judges house (houseStart ++ (houseBefore ++ houseBehind)) (Safe 3 10) houseRecords []
+  -- a path that is not empty: without the lemma that P0 fails at the start too, node 1 is 80000002, path 0
+  pub e-path : Judges house (houseBefore ++ houseBehind) (MayForbid 1 0 5 17) cutRecords (0xD0000000 ∷ [])
   -- (f) empty program, refusal 2 at 0
   pub f : Refuses [] 2 0
   -- (g) low end equal to high is allowed, one above refused 4
@@ -114,7 +117,7 @@ pub record Table : Type 0 where
 pub worked : Table
 unfolding
     program ranges rows end coefs row assignment sets action due one times many setsVariable lemma list assigned plusTimes combine
-    dot corner firstOff conjuncts explored visited turns linksIn literalsIn among allAmong applies setOf contradicted forbids runsOff rangeEnds
+    dot corner firstOff zeroOn conjuncts explored visited turns linksIn literalsIn among allAmong applies setOf contradicted forbids runsOff rangeEnds
     findingsFrom edgeRow recordsOf back
 worked =
     record {
@@ -123,7 +126,8 @@ worked =
       c = zeros-not-accepted;
       c-fade = refl;
       d = judged house [] (MayForbid 0 0 1 4) bareRecords [] (λ gl pl. refl);
-      e = judged house (houseBefore ++ houseBehind) (MayForbid 1 0 5 17) cutRecords (0xD0000000 ∷ []) (λ gl pl. refl);
+      e = judged house (houseStart ++ (houseBefore ++ houseBehind)) (Safe 3 10) houseRecords [] (λ gl pl. refl);
+      e-path = judged house (houseBefore ++ houseBehind) (MayForbid 1 0 5 17) cutRecords (0xD0000000 ∷ []) (λ gl pl. refl);
       f = (Word 0, refl, refl, refl);
       g = refl;
       g-above = (Value 0, refl, refl, refl);

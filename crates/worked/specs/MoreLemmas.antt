@@ -1,18 +1,22 @@
 -- The other lemma lists of the worked table. Each line is one lemma.
 --
 -- fadeFirstZero — Fade's first lemma with all multipliers 0
--- houseBefore, houseFails, houseBehind, houseLemmas — House's lemmas: before the one for action 0 that P0 fails afterwards, that one, behind it; all
+-- houseStart, houseBefore, houseFails, houseBehind, houseLemmas — House's lemmas: that P0 fails at the start; those before the one for action 0 that P0
+--                 fails afterwards; that one; those behind it; all
 use mathlib.Core.List.{List, [], _∷_, _++_}
 use Prim.Native.Nat.{ℕ}
 
 abbrev pub fadeFirstZero : List ℕ
 fadeFirstZero = 0x90030000 ∷ 0x80000000 ∷ 0xA0000000 ∷ 0xA0000000 ∷ []
 
--- its lemmas, in three parts: those before the one for action 0 that P0 fails afterwards
+-- its lemmas, in four parts: that P0 fails at the start
+abbrev pub houseStart : List ℕ
+houseStart = 0x9FF20000 ∷ 0x80000000 ∷ 0xA0000001 ∷ 0xA0000001 ∷ 0xA0000001 ∷ []
+
+-- those before the one for action 0 that P0 fails afterwards
 abbrev pub houseBefore : List ℕ
 houseBefore =
-    0x9FF20000 ∷ 0x80000000 ∷ 0xA0000001 ∷ 0xA0000001 ∷ 0xA0000001
-    ∷ 0x9FF20001 ∷ 0x80000000 ∷ 0xA0000001 ∷ 0xA0000001 ∷ 0xA0000001
+    0x9FF20001 ∷ 0x80000000 ∷ 0xA0000001 ∷ 0xA0000001 ∷ 0xA0000001
     ∷ 0x90000000 ∷ 0x80000001 ∷ 0xA0000001 ∷ 0xA0000001
     ∷ 0x90010000 ∷ 0x80000001 ∷ 0xA0000001 ∷ 0xA0000001 ∷ 0xA0000001 ∷ []
 
@@ -45,4 +49,4 @@ houseBehind =
     ∷ 0x90340001 ∷ 0x80000000 ∷ 0xA0000001 ∷ []
 
 abbrev pub houseLemmas : List ℕ
-houseLemmas = houseBefore ++ (houseFails ++ houseBehind)
+houseLemmas = houseStart ++ (houseBefore ++ (houseFails ++ houseBehind))
