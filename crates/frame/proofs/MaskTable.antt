@@ -32,27 +32,24 @@ use Rattle.lemmas.proofs.SourceLaws.{stored-shape}
 use Rattle.lemmas.proofs.HeadLaws.{marks-of}
 use Rattle.lemmas.proofs.LemmaLaws.{sets-known, action-rising}
 use Rattle.frame.specs.Frame.{zeroOn, untouched}
-use Rattle.frame.specs.Masks.{clearBelow, maskTo, maskBy, masksOf}
+use Rattle.frame.specs.Masks.{clearBelow, maskTo, maskBy, maskOf, masksOf}
 use Rattle.frame.proofs.Frame.{Zero, zero-in, zero-out}
-
-abbrev maskFor : Program → Action → ℕ
-maskFor p a = maskBy (p .predicates) (variablesSet noneSet (a .sets)) (length (p .predicates))
 
 -- ---- the loop over the actions
 pub record Masking (p : Program) (masks : List ℕ) (k : ℕ) : Type 0 where
   pub few : k ≤ length (p .actions)
   pub long : length masks ≡ 16
-  pub rest : sets masks k (drop k (map (maskFor p) (p .actions))) ≡ masksOf p
+  pub rest : sets masks k (drop k (map (maskOf p) (p .actions))) ≡ masksOf p
 
 pub masking-none : (p : Program) → Masking p (replicate 16 0) 0
 masking-none p = record { few = omega arith; long = refl; rest = refl }
 
 module _ (p : Program) (masks : List ℕ) (k : ℕ) (h : Masking p masks k) where
-  pub masking-next : k < length (p .actions) → (y : ℕ) → y ≡ maskFor p (actionOf p k) → Masking p (set masks k y) (k + 1)
+  pub masking-next : k < length (p .actions) → (y : ℕ) → y ≡ maskOf p (actionOf p k) → Masking p (set masks k y) (k + 1)
   masking-next l y e =
-      let xs = map (maskFor p) (p .actions) in
-      let n : k < length xs = rw (length-map (p .actions) (maskFor p)) l in
-      let here : getD xs k 0 ≡ y = getD-mapped (maskFor p) (p .actions) k noneAction 0 l ∙ sym e in
+      let xs = map (maskOf p) (p .actions) in
+      let n : k < length xs = rw (length-map (p .actions) (maskOf p)) l in
+      let here : getD xs k 0 ≡ y = getD-mapped (maskOf p) (p .actions) k noneAction 0 l ∙ sym e in
       record {
         few = omega arith;
         long = length-set masks k y ∙ h .long;
@@ -61,7 +58,7 @@ module _ (p : Program) (masks : List ℕ) (k : ℕ) (h : Masking p masks k) wher
 
   pub masking-done : length (p .actions) ≤ k → masks ≡ masksOf p
   masking-done l =
-      let none : drop k (map (maskFor p) (p .actions)) ≡ [] = drop-of-length-le (map (maskFor p) (p .actions)) {i = k} (rw (length-map (p .actions) (maskFor p)) l) in
+      let none : drop k (map (maskOf p) (p .actions)) ≡ [] = drop-of-length-le (map (maskOf p) (p .actions)) {i = k} (rw (length-map (p .actions) (maskOf p)) l) in
       rw none at (h .rest)
 
 -- ---- what the loop reads of an image
@@ -77,7 +74,7 @@ mask-alike t u (suc n) h = rw (h n (omega arith), mask-alike t u n (λ j l. h j 
 
 module _ (p : Program) {image : Image} (same : image ≡ imageOf p) where
   pub mask-stored : length (p .actions) ≤ 16 → length (p .predicates) ≤ 14 → (k : ℕ) (d : Shape) → k < length (p .actions)
-      → maskBy (image .pred) (getD (image .shapes) k d .set) (image .preds) ≡ maskFor p (actionOf p k)
+      → maskBy (image .pred) (getD (image .shapes) k d .set) (image .preds) ≡ maskOf p (actionOf p k)
   mask-stored few small k d l =
       rw (stored-shape p few same k d l, ap (λ (y : Image). y .preds) same, ap (λ (y : Image). y .pred) same)
       (mask-alike _ _ (length (p .predicates)) (λ j h. ap (λ (r : Row). clearBelow (variablesSet noneSet (actionOf p k .sets)) (r .coef) 8) (stored-at 14 zeroRow (p .predicates) j noRow h small)))
@@ -124,8 +121,8 @@ module _ (p : Program) (ok : WellFormed p) (k : ℕ) where
   -- past the last action
   past : length (p .actions) ≤ k → getD (masksOf p) k 0 ≡ 0
   past h =
-      let xs = map (maskFor p) (p .actions) in
-      let n = length-map (p .actions) (maskFor p) in
+      let xs = map (maskOf p) (p .actions) in
+      let n = length-map (p .actions) (maskOf p) in
       elim (decLt k 16) [
         | yes l ↦ blank-at 16 0 xs k 0 (omega arith) l
         | no l ↦ List·getD-eq-default (masksOf p) 0 {n = k} (rw (length-sets (replicate 16 0) 0 xs) (omega arith))
@@ -133,8 +130,8 @@ module _ (p : Program) (ok : WellFormed p) (k : ℕ) where
 
   pub masks-at : getD (masksOf p) k 0 ≡ maskTo (untouched p k) (length (p .predicates))
   masks-at = elim (decLt k (length (p .actions))) [
-    | yes l ↦ stored-at 16 0 (map (maskFor p) (p .actions)) k 0 (rw (length-map (p .actions) (maskFor p)) l) (rw (length-map (p .actions) (maskFor p)) (ok .actions .few))
-        ∙ getD-mapped (maskFor p) (p .actions) k noneAction 0 l
+    | yes l ↦ stored-at 16 0 (map (maskOf p) (p .actions)) k 0 (rw (length-map (p .actions) (maskOf p)) l) (rw (length-map (p .actions) (maskOf p)) (ok .actions .few))
+        ∙ getD-mapped (maskOf p) (p .actions) k noneAction 0 l
         ∙ mask-alike _ (untouched p k) (length (p .predicates)) (λ j h. rw (lt-ltb k (length (p .actions)) l) (ap (λ (r : Row). clearBelow (variablesSet noneSet (actionOf p k .sets)) (r .coef) 8) (same-default (p .predicates) j noRow _ h) ∙ clear-zero (predicate p j)))
     | no l ↦ past (omega arith)
         ∙ sym (mask-alike (untouched p k) (λ j. false) (length (p .predicates)) (λ j h. rw (le-ltb k (length (p .actions)) (omega arith)) refl) ∙ mask-none (length (p .predicates)))

@@ -3,8 +3,8 @@
 -- clearBelow — coefficients are zero on every variable below v that is marked
 -- withBoth   — a mask, and both literals of predicate j
 -- maskTo     — both literals of each predicate below n for which a test holds
--- maskBy     — of the predicates that an action leaves untouched, by the marks of the variables that it sets
--- masksOf    — for each action of a program; 0 past the last one
+-- maskBy     — of the predicates that leave marked variables alone
+-- maskOf, masksOf — of those that an action leaves untouched; for each action of a program, 0 past the last one
 use mathlib.Core.Bool.{Bool, true, false, cond, not, _&&_, _||_}
 use mathlib.Core.List.{List, map}
 use Prim.Native.Nat.{ℕ, zero, suc, _+_, _^_}
@@ -32,5 +32,8 @@ maskTo t (suc n) = cond (t n) (withBoth (maskTo t n) n) (maskTo t n)
 abbrev pub maskBy : List Row → List Bool → ℕ → ℕ
 maskBy rows marks n = maskTo (λ j. clearBelow marks (getD rows j noRow .coef) 8) n
 
+abbrev pub maskOf : Program → Action → ℕ
+maskOf p a = maskBy (p .predicates) (variablesSet noneSet (a .sets)) (length (p .predicates))
+
 abbrev pub masksOf : Program → List ℕ
-masksOf p = sets (replicate 16 0) 0 (map (λ a. maskBy (p .predicates) (variablesSet noneSet (a .sets)) (length (p .predicates))) (p .actions))
+masksOf p = sets (replicate 16 0) 0 (map (maskOf p) (p .actions))

@@ -8,7 +8,8 @@ ghost use Rattle.rows.specs.Bounds.{Read, noRow};
 ghost use Rattle.grammar.specs.Programs.{Program};
 ghost use Rattle.grammar.specs.WellFormed.{WellFormed};
 ghost use Rattle.programs.specs.Images.{imageOf};
-ghost use Rattle.frame.specs.Masks.{clearBelow, withBoth, maskBy, masksOf};
+ghost use Rattle.runs.specs.Runs.{actionOf};
+ghost use Rattle.frame.specs.Masks.{clearBelow, withBoth, maskBy, maskOf, masksOf};
 use programs::Image;
 use rows::Row;
 
@@ -47,7 +48,7 @@ fn with_both(mask: u32, j: u32) -> u32
 }
 
 // Both literals of each of n predicates that assignments to these variables leave untouched.
-fn mask_of(predicates: [Row; 14], n: usize, set: [bool; 8]) -> u32
+fn mask_by(predicates: [Row; 14], n: usize, set: [bool; 8]) -> u32
     requires { ⌜ (n ≤ 14) × ((i : ℕ) → Read (getD predicates i noRow)) ⌝ }
     ensures { λ r. ⌜ r ≡ maskBy predicates set n ⌝ }
 {
@@ -62,20 +63,28 @@ fn mask_of(predicates: [Row; 14], n: usize, set: [bool; 8]) -> u32
     mask
 }
 
-// For each action both literals of each predicate that it leaves untouched.
+// Both literals of each predicate that action k leaves untouched.
+fn mask_of(image: Image, k: usize) -> u32
+    requires { ⌜ (k < image .actions) × ((p : Program) × WellFormed p × (image ≡ imageOf p)) ⌝ }
+    ensures { λ r. ⌜ ((p : Program) → image ≡ imageOf p → r ≡ maskOf p (actionOf p k)) ⌝ }
+{
+    let shape = image.shapes[k];
+    let set = shape.set;
+    let predicates = image.pred;
+    let n = image.preds;
+    mask_by(predicates, n, set)
+}
+
+// The same for each action.
 pub fn masks(image: Image) -> [u32; 16]
     requires { ⌜ ((p : Program) × WellFormed p × (image ≡ imageOf p)) ⌝ }
     ensures { λ r. ⌜ ((p : Program) → image ≡ imageOf p → r ≡ masksOf p) ⌝ }
 {
     let mut masks = [0u32; 16];
     let actions = image.actions;
-    let preds = image.preds;
-    let predicates = image.pred;
     let mut action: usize = 0;
     while action < actions {
-        let shape = image.shapes[action];
-        let set = shape.set;
-        masks[action] = mask_of(predicates, preds, set);
+        masks[action] = mask_of(image, action);
         action += 1;
     }
     masks
