@@ -230,8 +230,10 @@ troubled "judge: neither program nor crates/" "there is no program, and no crate
 mv "$room/crates" "$tree/crates"
 mkdir "$tree/.ci"
 echo "another kit" >"$tree/.ci/kit"
-troubled "judge: rt is another kit" "the program has to be built, and rt is not the kit" 'PATH=$room/rt:$tools $tree/judge $fade'
-echo "the kit" >"$tree/.ci/kit"
+troubled "judge: rt is another kit" "the program has to be built, and rt is not a kit" 'PATH=$room/rt:$tools $tree/judge $fade'
+printf 'the kit, an older one\nthe ki\n' >"$tree/.ci/kit"
+troubled "judge: rt is a kit that is named in part" "the program has to be built, and rt is not a kit" 'PATH=$room/rt:$tools $tree/judge $fade'
+printf 'an older kit\nthe kit\n' >"$tree/.ci/kit"
 troubled "judge: not built, and no rt" "the program has to be built, and rt is not on the PATH" 'PATH=$room/tools $tree/judge $fade'
 built "judge: the first build" 1 1
 built "judge: built, and nothing newer" 1 0
