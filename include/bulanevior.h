@@ -44,7 +44,7 @@ static_assert(sizeof(size_t) == 8, "64-bit numbers only");
 _Static_assert(sizeof(size_t) == 8, "64-bit numbers only");
 #endif
 
-#define BNV_VERSION "0.2.0"
+#define BNV_VERSION "0.3.0"
 
 /* ---- Words: the kind in bits 31 to 28, the payload in bits 27 to 0. */
 
@@ -173,6 +173,8 @@ BnvAsk bnv_ask(const uint32_t *words, size_t words_length, const uint32_t *lemma
  * BNV_SAFE: no list of actions, however long, tried from any start state, meets a forbidden state or runs a variable off its range.
  * That is proved whatever the lemmas are; nobody has to vouch for them. The other two verdicts are findings in the graph; no state
  * may be able to walk their path.
+ *
+ * A predicate whose row has no coefficient on a variable that an action sets keeps its literal across that action without a lemma.
  *
  * A verdict fills the first BNV_GRAPH_WORDS words of the graph list with one record for each node, SETS, ORIGIN and an EDGE for each
  * action, and zeroes after them; and the first BNV_PATH_WORDS words of the path list with the STEP words that lead to the finding's

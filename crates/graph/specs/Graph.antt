@@ -1,4 +1,5 @@
--- The abstract state graph of accepted lemmas, which stand in two tables (entries of gather/specs/Gathering), and of the masks of the literals that each action keeps.
+-- The abstract state graph of accepted lemmas, which stand in two tables (entries of gather/specs/Gathering), and of masks of the literals that
+-- each action keeps.
 --
 -- answerOf — a successor as the search has it: a node's word is a SETS word
 -- nextOf   — the successor of a node's word by an action

@@ -117,4 +117,5 @@ pub record Judging (p : Program) (ls : List Lemma) (g : Graph) (es : List Entry)
   pub listed : (l₀ : List ℕ) × (l ≡ graphList actions (Done g) l₀)
   pub applying : (source set : ℕ) (goal : Goal) (index : ℕ) → Placed (goalNumber goal) index
       → has (placeOf (goalNumber goal) index) (gathered source set es) ≡ applies p ls source (literalsIn 14 set) goal index
-  pub leading : (source set : ℕ) → given (successorOf (withKept (getD kept source 0) set (gathered source set es))) ≡ hasNext (successor p ls source (literalsIn 14 set))
+  pub leading : (source set : ℕ)
+      → given (successorOf (withKept (getD kept source 0) set (gathered source set es))) ≡ hasNext (successor p ls source (literalsIn 14 set))
