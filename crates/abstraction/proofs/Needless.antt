@@ -12,7 +12,7 @@ use Rattle.grammar.specs.Programs.{Program}
 use Rattle.lemmas.specs.Lemmas.{Goal, CannotHappen, HoldsAfter, FailsAfter, goalNumber, Lemma, START}
 use Rattle.frame.specs.Frame.{untouched}
 use Rattle.words.specs.LiteralSets.{Literal, B, NotB, predicateOf, literalsIn}
-use Rattle.formula.specs.Formula.{False, Disabled, Then, follows, conjuncts}
+use Rattle.formula.specs.Formula.{False, Disabled, follows, conjuncts}
 use Rattle.search.specs.Search.{explored}
 use Rattle.records.specs.Records.{mostNodes}
 use Rattle.abstraction.specs.Abstraction.{among, lemmaApplies, applies, shown, successor, answer, graph}

@@ -1,30 +1,30 @@
--- The table of masks of a program: the loop that makes it, `Masking`, and its mask for each action by `untouched`, `masks-at`.
+-- The masks of a program: what is read of its image, and the mask of each action by `untouched` (`masks-at`).
 use mathlib.Core.Path.{_≡_, refl, sym, ap, _∙_}
-use mathlib.Core.Bool.{Bool, true, false, cond, not, _&&_, _||_}
+use mathlib.Core.Bool.{Bool, true, false, not, _||_}
 use mathlib.Core.Logic.{⊎-elim, _↔_}
-use mathlib.Core.List.{List, [], _∷_, map}
-use Prim.Native.Nat.{ℕ, zero, suc, _+_, _≤_, _<_}
+use mathlib.Core.List.{List}
+use Prim.Native.Nat.{ℕ, zero, suc, _≤_, _<_}
 use native.Mathlib.Decide.{decLt}
-use native.Mathlib.Numerals.{add-one}
 use native.Mathlib.Omega.{arith}
 use lib.Dec.{eqb}
-use lib.IntN.{ℤ, pos, natAbs}
-use lib.ListN.{length, getD, set, drop, replicate, length-map, length-set, drop-of-length-le, List·getD-eq-default}
-use lib.Seq.{sets, drop-cons, length-sets}
+use lib.IntN.{pos, natAbs}
+use lib.ListN.{length, getD, set}
+use lib.Seq.{sets}
 use borrow.Author.Tests.{eqb-true, eq-eqb, lt-ltb, le-ltb}
 use native.Mathlib.Nat.{not-suc-le-zero, eq-or-lt-of-le, le-of-suc-le-suc}
-use Rattle.integers.proofs.Fill.{getD-mapped, same-default}
+use Rattle.integers.proofs.Fill.{same-default}
 use Rattle.integers.proofs.Tests.{and-true, false-true, same-test}
 use Rattle.rows.specs.declared.Row.{Row}
 use Rattle.rows.specs.Bounds.{noRow}
-use Rattle.grammar.specs.Programs.{Assignment, Action, Program}
+use Rattle.grammar.specs.Programs.{Program}
 use Rattle.grammar.specs.WellFormed.{WellFormed}
 use Rattle.reader.specs.Results.{zeroRow}
 use Rattle.actions.specs.Results.{variablesSet, noneSet}
 use Rattle.programs.specs.declared.Image.{Image}
 use Rattle.programs.specs.declared.Shape.{Shape}
 use Rattle.programs.specs.Images.{imageOf}
-use Rattle.programs.proofs.Places.{noneAction, stored-at, blank-at}
+use Rattle.programs.proofs.Places.{stored-at}
+use Rattle.programs.proofs.Tables.{table-at, table-past}
 use Rattle.runs.specs.Runs.{actionOf, predicate}
 use Rattle.runs.proofs.Sizes.{ReadRows, guards-read}
 use Rattle.lemmas.specs.LemmaGrammar.{setsVariable}
@@ -34,32 +34,6 @@ use Rattle.lemmas.proofs.LemmaLaws.{sets-known, action-rising}
 use Rattle.frame.specs.Frame.{zeroOn, untouched}
 use Rattle.frame.specs.Masks.{clearBelow, maskTo, maskBy, maskOf, masksOf}
 use Rattle.frame.proofs.Frame.{Zero, zero-in, zero-out}
-
--- ---- the loop over the actions
-pub record Masking (p : Program) (masks : List ℕ) (k : ℕ) : Type 0 where
-  pub few : k ≤ length (p .actions)
-  pub long : length masks ≡ 16
-  pub rest : sets masks k (drop k (map (maskOf p) (p .actions))) ≡ masksOf p
-
-pub masking-none : (p : Program) → Masking p (replicate 16 0) 0
-masking-none p = record { few = omega arith; long = refl; rest = refl }
-
-module _ (p : Program) (masks : List ℕ) (k : ℕ) (h : Masking p masks k) where
-  pub masking-next : k < length (p .actions) → (y : ℕ) → y ≡ maskOf p (actionOf p k) → Masking p (set masks k y) (k + 1)
-  masking-next l y e =
-      let xs = map (maskOf p) (p .actions) in
-      let n : k < length xs = rw (length-map (p .actions) (maskOf p)) l in
-      let here : getD xs k 0 ≡ y = getD-mapped (maskOf p) (p .actions) k noneAction 0 l ∙ sym e in
-      record {
-        few = omega arith;
-        long = length-set masks k y ∙ h .long;
-        rest = rw add-one (rw (drop-cons xs k 0 n, here) at (h .rest));
-      }
-
-  pub masking-done : length (p .actions) ≤ k → masks ≡ masksOf p
-  masking-done l =
-      let none : drop k (map (maskOf p) (p .actions)) ≡ [] = drop-of-length-le (map (maskOf p) (p .actions)) {i = k} (rw (length-map (p .actions) (maskOf p)) l) in
-      rw none at (h .rest)
 
 -- ---- what the loop reads of an image
 mask-none : (n : ℕ) → maskTo (λ j. false) n ≡ 0
@@ -118,21 +92,10 @@ module _ (p : Program) (ok : WellFormed p) (k : ℕ) where
       (λ h. zero-in (actionOf p k .sets) r (λ v e. to h v (set-few v e) (marks-of p ok k v ∙ e)))
       (λ h. back (λ v l m. zero-out (actionOf p k .sets) r h v (sym (marks-of p ok k v) ∙ m)))
 
-  -- past the last action
-  past : length (p .actions) ≤ k → getD (masksOf p) k 0 ≡ 0
-  past h =
-      let xs = map (maskOf p) (p .actions) in
-      let n = length-map (p .actions) (maskOf p) in
-      elim (decLt k 16) [
-        | yes l ↦ blank-at 16 0 xs k 0 (omega arith) l
-        | no l ↦ List·getD-eq-default (masksOf p) 0 {n = k} (rw (length-sets (replicate 16 0) 0 xs) (omega arith))
-      ]
-
   pub masks-at : getD (masksOf p) k 0 ≡ maskTo (untouched p k) (length (p .predicates))
   masks-at = elim (decLt k (length (p .actions))) [
-    | yes l ↦ stored-at 16 0 (map (maskOf p) (p .actions)) k 0 (rw (length-map (p .actions) (maskOf p)) l) (rw (length-map (p .actions) (maskOf p)) (ok .actions .few))
-        ∙ getD-mapped (maskOf p) (p .actions) k noneAction 0 l
+    | yes l ↦ table-at (maskOf p) p (ok .actions .few) k l
         ∙ mask-alike _ (untouched p k) (length (p .predicates)) (λ j h. rw (lt-ltb k (length (p .actions)) l) (ap (λ (r : Row). clearBelow (variablesSet noneSet (actionOf p k .sets)) (r .coef) 8) (same-default (p .predicates) j noRow _ h) ∙ clear-zero (predicate p j)))
-    | no l ↦ past (omega arith)
+    | no l ↦ table-past (maskOf p) p (ok .actions .few) k (omega arith)
         ∙ sym (mask-alike (untouched p k) (λ j. false) (length (p .predicates)) (λ j h. rw (le-ltb k (length (p .actions)) (omega arith)) refl) ∙ mask-none (length (p .predicates)))
   ]

@@ -6,17 +6,17 @@
 -- maskBy     — of the predicates that leave marked variables alone
 -- maskOf, masksOf — of those that an action leaves untouched; for each action of a program, 0 past the last one
 use mathlib.Core.Bool.{Bool, true, false, cond, not, _&&_, _||_}
-use mathlib.Core.List.{List, map}
+use mathlib.Core.List.{List}
 use Prim.Native.Nat.{ℕ, zero, suc, _+_, _^_}
 use lib.Bits.{bitOr}
 use lib.Dec.{eqb}
 use lib.IntN.{ℤ, pos, natAbs}
-use lib.ListN.{length, getD, replicate}
-use lib.Seq.{sets}
+use lib.ListN.{length, getD}
 use Rattle.rows.specs.declared.Row.{Row}
 use Rattle.rows.specs.Bounds.{noRow}
 use Rattle.grammar.specs.Programs.{Action, Program}
 use Rattle.actions.specs.Results.{variablesSet, noneSet}
+use Rattle.programs.specs.Images.{tableOf}
 
 unfoldable pub clearBelow : List Bool → List ℤ → ℕ → Bool
 clearBelow marks coef zero = true
@@ -36,4 +36,4 @@ abbrev pub maskOf : Program → Action → ℕ
 maskOf p a = maskBy (p .predicates) (variablesSet noneSet (a .sets)) (length (p .predicates))
 
 abbrev pub masksOf : Program → List ℕ
-masksOf p = sets (replicate 16 0) 0 (map (maskOf p) (p .actions))
+masksOf p = tableOf (maskOf p) p

@@ -4,5 +4,6 @@ pub mod Parts
 pub mod Stages
 pub mod Whole
 pub mod Places
+pub mod Tables
 pub mod ActionParts
 pub mod Answers

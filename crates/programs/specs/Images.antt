@@ -7,6 +7,7 @@
 -- noActions, noneStored, actionsFrom    — where actions begin, and their shapes
 -- noForbidden, forbiddenFrom            — forbidden combinations
 -- imageOf, noImage, loaded              — the image of a program
+-- tableOf                               — a number for each action of a program, 0 past the last one
 -- placeOf                               — the index where reading goes on
 -- Rest, rest, imageWith, restLoaded     — what follows the predicates, and the image with it
 use mathlib.Core.List.{List, map}
@@ -108,6 +109,9 @@ noImage =
       forbidden = 0;
       literals = replicate 8 noLiterals;
     }
+
+abbrev pub tableOf : (Action → ℕ) → Program → List ℕ
+tableOf f p = sets (replicate 16 0) 0 (map f (p .actions))
 
 abbrev pub loaded : Read Program → Loaded
 loaded (got p ws i) = record { status = Ready; image = imageOf p }

@@ -17,6 +17,7 @@ use Rattle.words.specs.declared.Literals.{Literals}
 use Rattle.grammar.specs.Programs.{Action, Program}
 use Rattle.programs.specs.declared.Image.{Image}
 use Rattle.programs.proofs.Places.{noneAction}
+use Rattle.programs.proofs.Tables.{table-at}
 use Rattle.lemmas.specs.Lemmas.{Goal, goalNumber, Lemma}
 use Rattle.lemmas.specs.Sources.{theProgram, Held}
 use Rattle.gather.specs.Gathering.{Placed, Entry, Table, placeOf, gathered, withKept, successorOf, firstMissing}
@@ -32,7 +33,6 @@ use Rattle.verdict.specs.declared.Found.the-variants.{Nothing}
 use Rattle.verdict.specs.declared.Found.the-variants.{Forbid as MayForbid}
 use Rattle.verdict.specs.declared.Found.the-variants.{RunOff as MayRunOff}
 use Rattle.verdict.specs.Working.{endsOf, askedEnds, foundOf, Within, firstFree, given, endAt, firstUnshown, Judging}
-use Rattle.verdict.proofs.Asked.{asked-at}
 use Rattle.verdict.proofs.Combinations.{forbids-here, forbids-none}
 use Rattle.verdict.proofs.Ends.{ends-found}
 
@@ -68,7 +68,7 @@ module _ {p : Program} {ls : List Lemma} {g : Graph} {es : List Entry} {literals
         let (lt, is, rest) = from-j (p .actions) j x xs e in
         let few = J .good .actions .few in
         let set = payload (nodeWord g k) in
-        let asks : getD asked j 0 ≡ endsOf x = ap (λ (y : List ℕ). getD y j 0) (J .ends) ∙ asked-at p j lt few ∙ ap endsOf is in
+        let asks : getD asked j 0 ≡ endsOf x = ap (λ (y : List ℕ). getD y j 0) (J .ends) ∙ table-at endsOf p few j lt ∙ ap endsOf is in
         rw (asks, T .same j (omega arith), J .leading j set, runs-from xs (suc j) rest)
         (go (hasNext (successor p ls j (literalsAt g k))) (ends-found p ls es (J .good) (J .applying) set k j x is (runsOff p ls (literalsAt g k) k (suc j) xs)))
       where

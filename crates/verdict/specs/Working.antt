@@ -12,8 +12,8 @@
 -- Judging         — what the judge works on belongs to a program, a lemma list and their graph
 use mathlib.Core.Path.{_≡_}
 use mathlib.Core.Bool.{Bool, true, false, cond}
-use mathlib.Core.List.{List, [], _∷_, map}
-use Prim.Native.Nat.{ℕ, zero, suc, _+_, _-_, _/_, _%_, _^_, _<_, _≤_}
+use mathlib.Core.List.{List, [], _∷_}
+use Prim.Native.Nat.{ℕ, zero, suc, _+_, _-_, _/_, _%_, _<_, _≤_}
 use lib.Dec.{eqb, ltb}
 use lib.ListN.{length, getD, replicate}
 use lib.Seq.{sets}
@@ -22,6 +22,7 @@ use Rattle.words.specs.declared.Literals.{Literals}
 use Rattle.grammar.specs.Programs.{Action, Program}
 use Rattle.grammar.specs.WellFormed.{WellFormed}
 use Rattle.actions.specs.Results.{variablesSet, noneSet}
+use Rattle.programs.specs.Images.{tableOf}
 use Rattle.lemmas.specs.Lemmas.{Goal, goalNumber, Lemma}
 use Rattle.sets.specs.Sets.{clashes}
 use Rattle.gather.specs.Gathering.{Placed, Entry, placeOf, gathered, withKept, successorOf, askEnds, firstMissing}
@@ -70,7 +71,7 @@ endsOf a = endsTo (variablesSet noneSet (a .sets)) 8
 
 -- 0 past the last action
 abbrev pub askedEnds : Program → List ℕ
-askedEnds p = sets (replicate 16 0) 0 (map endsOf (p .actions))
+askedEnds p = tableOf endsOf p
 
 -- ---- findings
 abbrev pub foundAs : Finding → Found

@@ -1,4 +1,4 @@
--- What is in the table, with what is still to come, is the whole: `Masking`. The measure is what is left of the actions.
+-- What is in the table, with what is still to come, is the whole: `Tabling`. The measure is what is left of the actions.
 use mathlib.Core.Path.{_≡_, ap}
 use Prim.Native.Nat.{_-_}
 use native.Mathlib.Omega.{arith}
@@ -6,18 +6,20 @@ use borrow.Author.Needs.{needs}
 use Rattle.grammar.specs.Programs.{Program}
 use Rattle.programs.specs.declared.Image.{Image}
 use Rattle.programs.specs.Images.{imageOf}
-use Rattle.frame.proofs.MaskTable.{Masking, masking-none, masking-next, masking-done, actions-few}
+use Rattle.programs.proofs.Tables.{Tabling, tabling-none, tabling-next, tabling-done}
+use Rattle.frame.specs.Masks.{maskOf}
+use Rattle.frame.proofs.MaskTable.{actions-few}
 use Rattle.frame.proofs.masks.Statement.{statement}
 use Rattle.frame.proofs.masks.Tie as tie
 
 abbrev Inv-loop : tie.InvT-loop
-Inv-loop image masks₀ actions action₀ masks action = (p : Program) → image ≡ imageOf p → Masking p masks action
+Inv-loop image masks₀ actions action₀ masks action = (p : Program) → image ≡ imageOf p → Tabling (maskOf p) p masks action
 
 abbrev μ-loop : tie.MeasureT-loop
 μ-loop image masks₀ actions action₀ masks action = actions - action
 
 loop-holds : tie.Need-loop-holds Inv-loop μ-loop
-loop-holds c = λ p same. masking-none p
+loop-holds c = λ p same. tabling-none (maskOf p) p
 
 mask-of-requires : tie.Need-mask-of-requires Inv-loop μ-loop
 mask-of-requires c κs = let s = c .before .before in (omega (arith, c .loop-test .taken), s .pre)
@@ -40,14 +42,14 @@ loop-again c =
     let l = i .before in
     λ p same.
     let n = ap (λ (y : Image). y .actions) same in
-    masking-next p (l .loop .masks) (l .loop .action) (l .loop .inv p same) (omega (arith, i .loop-test .taken)) (c .mask-of .result) (c .mask-of .ensures p same)
+    tabling-next (maskOf p) p (l .loop .masks) (l .loop .action) (l .loop .inv p same) (omega (arith, i .loop-test .taken)) (c .mask-of .result) (c .mask-of .ensures p same)
 
 returns : tie.Need-returns Inv-loop μ-loop
 returns c =
     let l = c .before in
     λ p same.
     let n = ap (λ (y : Image). y .actions) same in
-    masking-done p (l .loop .masks) (l .loop .action) (l .loop .inv p same) (omega (arith, c .loop-test .left))
+    tabling-done (maskOf p) p (l .loop .masks) (l .loop .action) (l .loop .inv p same) (omega (arith, c .loop-test .left))
 
 pub masks-spec : {M : Type 1} → statement M
 masks-spec =

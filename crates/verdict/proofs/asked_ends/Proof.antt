@@ -1,4 +1,4 @@
--- What is in the table, with what is still to come, is the whole: `Asking`. The measure is what is left of the actions.
+-- What is in the table, with what is still to come, is the whole: `Tabling`. The measure is what is left of the actions.
 use mathlib.Core.Path.{_≡_, ap, _∙_}
 use Prim.Native.Nat.{_-_}
 use native.Mathlib.Omega.{arith}
@@ -8,19 +8,19 @@ use Rattle.programs.specs.declared.Image.{Image}
 use Rattle.programs.specs.declared.Shape.{Shape}
 use Rattle.programs.specs.Images.{imageOf}
 use Rattle.lemmas.proofs.SourceLaws.{stored-shape}
-use Rattle.verdict.specs.Working.{endsTo}
-use Rattle.verdict.proofs.Asked.{Asking, asking-none, asking-next, asking-done}
+use Rattle.programs.proofs.Tables.{Tabling, tabling-none, tabling-next, tabling-done}
+use Rattle.verdict.specs.Working.{endsTo, endsOf}
 use Rattle.verdict.proofs.asked_ends.Statement.{statement}
 use Rattle.verdict.proofs.asked_ends.Tie as tie
 
 abbrev Inv-loop : tie.InvT-loop
-Inv-loop image asked₀ actions action₀ asked action = (p : Program) → image ≡ imageOf p → Asking p asked action
+Inv-loop image asked₀ actions action₀ asked action = (p : Program) → image ≡ imageOf p → Tabling endsOf p asked action
 
 abbrev μ-loop : tie.MeasureT-loop
 μ-loop image asked₀ actions action₀ asked action = actions - action
 
 loop-holds : tie.Need-loop-holds Inv-loop μ-loop
-loop-holds c = λ p same. asking-none p
+loop-holds c = λ p same. tabling-none endsOf p
 
 mul-shape : tie.Need-mul-shape Inv-loop μ-loop
 mul-shape c = omega (arith, c .loop-test .taken, c .before .before .pre)
@@ -49,7 +49,7 @@ loop-again c =
     let l = i .before in
     λ p same.
     let n = ap (λ (y : Image). y .actions) same in
-    asking-next p (l .loop .asked) (l .loop .action) (l .loop .inv p same) (omega (arith, i .loop-test .taken)) (c .ends-of .result)
+    tabling-next endsOf p (l .loop .asked) (l .loop .action) (l .loop .inv p same) (omega (arith, i .loop-test .taken)) (c .ends-of .result)
     (c .ends-of .ensures ∙ ap (λ (s : Shape). endsTo (s .set) 8) (stored-shape p (omega (arith, l .before .pre)) same (l .loop .action) _ (omega (arith, i .loop-test .taken))))
 
 returns : tie.Need-returns Inv-loop μ-loop
@@ -57,7 +57,7 @@ returns c =
     let l = c .before in
     λ p same.
     let n = ap (λ (y : Image). y .actions) same in
-    asking-done p (l .loop .asked) (l .loop .action) (l .loop .inv p same) (omega (arith, c .loop-test .left))
+    tabling-done endsOf p (l .loop .asked) (l .loop .action) (l .loop .inv p same) (omega (arith, c .loop-test .left))
 
 pub asked-ends-spec : {M : Type 1} → statement M
 asked-ends-spec =
