@@ -15,11 +15,10 @@ use Rattle.lemmas.specs.Lemmas.{Goal, CannotHappen, HoldsAfter, FailsAfter, Lem
 use Rattle.lemmas.specs.LemmaGrammar.{goalAllowed, LemmaOk}
 use Rattle.frame.specs.Frame.{untouched}
 use Rattle.frame.specs.Masks.{maskTo, masksOf}
-use Rattle.frame.proofs.MaskLaws.{Masked, mask-is}
 use Rattle.frame.proofs.MaskTable.{masks-at}
 use Rattle.sets.specs.Sets.{bitOf, Member, apart}
 use Rattle.sets.proofs.Bits.{bit-mod}
-use Rattle.sets.proofs.Laws.{mixed-is}
+use Rattle.sets.proofs.Laws.{mixed-is, Paired, pairs-are}
 use Rattle.gather.specs.Gathering.{cannot, holds, fails, Entry, entryOf, gathered, withKept, blocked, successorOf}
 use Rattle.gather.specs.declared.Successor.{Successor}
 use Rattle.gather.specs.declared.Successor.the-variants.{Nothing, Set}
@@ -134,9 +133,9 @@ module _ (p : Program) (ok : WellFormed p) (ls : List Lemma) (good : Each (Lemma
     few = ok .predicates .few
 
     -- ---- the mask's digits
-    masked : (q : ℕ) → (has q mask ≡ true) ↔ Masked (untouched p source) preds q
+    masked : (q : ℕ) → (has q mask ≡ true) ↔ Paired (λ j. j) (λ j. 14 + j) (untouched p source) preds q
     masked q =
-        let (to, back) = mask-is (untouched p source) preds q in
+        let (to, back) = pairs-are (λ j. j) (λ j. 14 + j) (untouched p source) preds q in
         rw (masks-at p ok source) (λ h. to (eqb-true (bitOf q (maskTo (untouched p source) preds)) 1 h), λ w. eq-eqb (bitOf q (maskTo (untouched p source) preds)) 1 (back w))
 
     -- a place past the literals of the program's predicates has none

@@ -1,4 +1,5 @@
--- The abstract state graph of a program and a lemma list: formula (3) read with "an accepted lemma of the list shows it", and its exploration.
+-- The abstract state graph of a program and a lemma list: formula (3) read with "an accepted lemma of the list shows it" and "the action leaves it
+-- untouched", and its exploration.
 --
 -- sameLiteral, among, allAmong — a literal is one of some; all of some are
 -- lemmaApplies, applies — a lemma applies at an abstract state, for a source, a goal and an index; some lemma of the list does

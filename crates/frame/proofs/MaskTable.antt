@@ -31,18 +31,19 @@ use Rattle.lemmas.specs.LemmaGrammar.{setsVariable}
 use Rattle.lemmas.proofs.SourceLaws.{stored-shape}
 use Rattle.lemmas.proofs.HeadLaws.{marks-of}
 use Rattle.lemmas.proofs.LemmaLaws.{sets-known, action-rising}
+use Rattle.sets.specs.Sets.{pairsTo}
 use Rattle.frame.specs.Frame.{zeroOn, untouched}
 use Rattle.frame.specs.Masks.{clearBelow, maskTo, maskBy, maskOf, masksOf}
 use Rattle.frame.proofs.Frame.{Zero, zero-in, zero-out}
 
 -- ---- what the loop reads of an image
 mask-none : (n : ℕ) → maskTo (λ j. false) n ≡ 0
-unfolding maskTo
+unfolding pairsTo
 mask-none zero = refl
 mask-none (suc n) = mask-none n
 
 mask-alike : (t u : ℕ → Bool) (n : ℕ) → ((j : ℕ) → j < n → t j ≡ u j) → maskTo t n ≡ maskTo u n
-unfolding maskTo
+unfolding pairsTo
 mask-alike t u zero h = refl
 mask-alike t u (suc n) h = rw (h n (omega arith), mask-alike t u n (λ j l. h j (omega arith)))
 

@@ -1,4 +1,4 @@
--- Request 1: the predicates that an action leaves untouched.
+-- Request 1: the predicates that an action leaves untouched, its frame.
 --
 -- zeroOn    — a row has a zero coefficient on every variable that some assignments set
 -- untouched — there is an action of that number, and a predicate's row has a zero coefficient on every variable that it sets

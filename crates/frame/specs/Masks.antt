@@ -1,14 +1,12 @@
 -- The untouched predicates of each action as masks of literals. Only contracts of functions within the project cite these.
 --
 -- clearBelow — coefficients are zero on every variable below v that is marked
--- withBoth   — a mask, and both literals of predicate j
 -- maskTo     — both literals of each predicate below n for which a test holds
 -- maskBy     — of the predicates that leave marked variables alone
 -- maskOf, masksOf — of those that an action leaves untouched; for each action of a program, 0 past the last one
-use mathlib.Core.Bool.{Bool, true, false, cond, not, _&&_, _||_}
+use mathlib.Core.Bool.{Bool, true, false, not, _&&_, _||_}
 use mathlib.Core.List.{List}
-use Prim.Native.Nat.{ℕ, zero, suc, _+_, _^_}
-use lib.Bits.{bitOr}
+use Prim.Native.Nat.{ℕ, zero, suc, _+_}
 use lib.Dec.{eqb}
 use lib.IntN.{ℤ, pos, natAbs}
 use lib.ListN.{length, getD}
@@ -17,17 +15,14 @@ use Rattle.rows.specs.Bounds.{noRow}
 use Rattle.grammar.specs.Programs.{Action, Program}
 use Rattle.actions.specs.Results.{variablesSet, noneSet}
 use Rattle.programs.specs.Images.{tableOf}
+use Rattle.sets.specs.Sets.{pairsTo}
 
 unfoldable pub clearBelow : List Bool → List ℤ → ℕ → Bool
 clearBelow marks coef zero = true
 clearBelow marks coef (suc v) = clearBelow marks coef v && (not (getD marks v false) || eqb (natAbs (getD coef v (pos 0))) 0)
 
-abbrev pub withBoth : ℕ → ℕ → ℕ
-withBoth w j = bitOr (bitOr w (2 ^ j)) (2 ^ (14 + j))
-
-unfoldable pub maskTo : (ℕ → Bool) → ℕ → ℕ
-maskTo t zero = 0
-maskTo t (suc n) = cond (t n) (withBoth (maskTo t n) n) (maskTo t n)
+abbrev pub maskTo : (ℕ → Bool) → ℕ → ℕ
+maskTo t n = pairsTo (λ j. j) (λ j. 14 + j) t n
 
 abbrev pub maskBy : List Row → List Bool → ℕ → ℕ
 maskBy rows marks n = maskTo (λ j. clearBelow marks (getD rows j noRow .coef) 8) n

@@ -1,6 +1,6 @@
 // Which predicates each action leaves untouched, as masks of literals.
 ghost use mathlib.Core.Path.{_≡_};
-ghost use Prim.Native.Nat.{ℕ, _<_, _≤_};
+ghost use Prim.Native.Nat.{ℕ, _+_, _<_, _≤_};
 ghost use lib.Dec.{eqb};
 ghost use lib.IntN.{natAbs};
 ghost use lib.ListN.{getD};
@@ -9,7 +9,8 @@ ghost use Rattle.grammar.specs.Programs.{Program};
 ghost use Rattle.grammar.specs.WellFormed.{WellFormed};
 ghost use Rattle.programs.specs.Images.{imageOf};
 ghost use Rattle.runs.specs.Runs.{actionOf};
-ghost use Rattle.frame.specs.Masks.{clearBelow, withBoth, maskBy, maskOf, masksOf};
+ghost use Rattle.sets.specs.Sets.{withPair};
+ghost use Rattle.frame.specs.Masks.{clearBelow, maskBy, maskOf, masksOf};
 use programs::Image;
 use rows::Row;
 
@@ -41,7 +42,7 @@ fn is_clear(set: [bool; 8], row: Row) -> bool
 // The mask, and both literals of predicate j.
 fn with_both(mask: u32, j: u32) -> u32
     requires { ⌜ j < 14 ⌝ }
-    ensures { λ r. ⌜ r ≡ withBoth mask j ⌝ }
+    ensures { λ r. ⌜ r ≡ withPair mask j (14 + j) ⌝ }
 {
     let one: u32 = 1;
     mask | (one << j) | (one << (14 + j))

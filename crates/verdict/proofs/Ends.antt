@@ -5,10 +5,9 @@ use mathlib.Core.Path.{_≡_, refl, sym, _∙_, subst}
 use mathlib.Core.Bool.{Bool, true, false, cond}
 use mathlib.Core.Logic.{_⊎_, inl, inr, ⊎-elim, _↔_}
 use mathlib.Core.List.{List, [], _∷_, _++_}
-use Prim.Native.Nat.{ℕ, zero, suc, _+_, _-_, _/_, _%_, _<_, _≤_}
+use Prim.Native.Nat.{ℕ, suc, _+_, _-_, _/_, _%_, _<_, _≤_}
 use native.Mathlib.Omega.{arith}
 use native.Mathlib.Numerals.{add-one}
-use native.Mathlib.Nat.{eq-or-lt-of-le, le-of-suc-le-suc}
 use lib.Dec.{eqb}
 use lib.ListN.{length, getD}
 use borrow.Author.Tests.{eqb-true, eq-eqb, ne-eqb, lt-ltb, le-ltb}
@@ -22,9 +21,9 @@ use Rattle.lemmas.specs.LemmaGrammar.{setsVariable}
 use Rattle.lemmas.proofs.LemmaLaws.{action-rising}
 use Rattle.lemmas.proofs.HeadLaws.{marks-of}
 use Rattle.sets.specs.Sets.{Member}
-use Rattle.sets.proofs.Bits.{bit-zero}
-use Rattle.gather.specs.Gathering.{Placed, low-end, high-end, Entry, placeOf, gathered, withKept, successorOf, askEnds, firstMissing}
-use Rattle.gather.proofs.Shown.{never, ask-is, missing-is}
+use Rattle.sets.proofs.Laws.{pairs-are}
+use Rattle.gather.specs.Gathering.{Placed, low-end, high-end, Entry, placeOf, gathered, withKept, successorOf, firstMissing}
+use Rattle.gather.proofs.Shown.{never, missing-is}
 use Rattle.search.proofs.Count.{lt-or-le, eq-or-ne}
 use Rattle.words.specs.LiteralSets.{literalsIn, has}
 use Rattle.abstraction.specs.Abstraction.{applies}
@@ -65,23 +64,8 @@ Asked : List Bool → ℕ → ℕ → Type 0
 Asked marks n q = (v : ℕ) × (v < n) × (getD marks v false ≡ true) × ((q ≡ placeOf 3 v) ⊎ (q ≡ placeOf 4 v))
 
 asked-is : (marks : List Bool) (n q : ℕ) → Member q (endsTo marks n) ↔ Asked marks n q
-unfolding endsTo Asked
-asked-is marks zero q = (λ m. absurd (omega (arith, m, bit-zero q)), λ w. absurd (omega arith))
-asked-is marks (suc n) q = go (getD marks n false) refl (asked-is marks n q)
-  where
-    go : (b : Bool) → getD marks n false ≡ b → Member q (endsTo marks n) ↔ Asked marks n q
-        → Member q (cond b (askEnds (endsTo marks n) n) (endsTo marks n)) ↔ Asked marks (suc n) q
-    go true e ih =
-        let (to, back) = ask-is (endsTo marks n) n q in (
-          λ m. ⊎-elim (λ h. (n, omega arith, e, inr h)) (λ s. ⊎-elim (λ h. (n, omega arith, e, inl h)) (λ t. let (v, l, h, w) = ih .0 t in (v, omega arith, h, w)) s) (to m),
-          λ w. let (v, l, h, s) = w in
-              back (⊎-elim (λ same. ⊎-elim (λ x. inr (inl (omega arith))) (λ x. inl (omega arith)) s) (λ lt. inr (inr (ih .1 (v, lt, h, s)))) (eq-or-lt-of-le (le-of-suc-le-suc l))),
-        )
-    go false e ih = (
-      λ m. let (v, l, h, w) = ih .0 m in (v, omega arith, h, w),
-      λ w. let (v, l, h, s) = w in
-          ⊎-elim (λ same. never (sym e ∙ rw same at h)) (λ lt. ih .1 (v, lt, h, s)) (eq-or-lt-of-le (le-of-suc-le-suc l)),
-    )
+unfolding Asked
+asked-is marks n q = pairs-are (placeOf 3) (placeOf 4) (λ v. getD marks v false) n q
 
 -- ---- the ends of one action, m being the first place that is missing
 rising-within : (vars v : ℕ) (ss : List Assignment) (u : ℕ) → Rising vars v ss → setsVariable ss u ≡ true → (v ≤ u) × (u < vars)

@@ -1,5 +1,4 @@
 pub mod Traces
-pub mod Asked
 pub mod Combinations
 pub mod Ends
 pub mod Judging

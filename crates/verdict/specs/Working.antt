@@ -24,8 +24,8 @@ use Rattle.grammar.specs.WellFormed.{WellFormed}
 use Rattle.actions.specs.Results.{variablesSet, noneSet}
 use Rattle.programs.specs.Images.{tableOf}
 use Rattle.lemmas.specs.Lemmas.{Goal, goalNumber, Lemma}
-use Rattle.sets.specs.Sets.{clashes}
-use Rattle.gather.specs.Gathering.{Placed, Entry, placeOf, gathered, withKept, successorOf, askEnds, firstMissing}
+use Rattle.sets.specs.Sets.{clashes, pairsTo}
+use Rattle.gather.specs.Gathering.{Placed, Entry, placeOf, gathered, withKept, successorOf, firstMissing}
 use Rattle.gather.specs.declared.Successor.{Successor}
 use Rattle.gather.specs.declared.Successor.the-variants.{Set}
 use Rattle.gather.specs.declared.Successor.the-variants.{Nothing as NoSet}
@@ -62,9 +62,8 @@ pub record Traced (a : ℕ) (g : Graph) : Type 0 where
   pub earlier : (k : ℕ) → k < count g → Earlier a k (origin g k)
 
 -- ---- the ends that are asked for
-unfoldable pub endsTo : List Bool → ℕ → ℕ
-endsTo marks zero = 0
-endsTo marks (suc v) = cond (getD marks v false) (askEnds (endsTo marks v) v) (endsTo marks v)
+abbrev pub endsTo : List Bool → ℕ → ℕ
+endsTo marks v = pairsTo (placeOf 3) (placeOf 4) (λ u. getD marks u false) v
 
 abbrev pub endsOf : Action → ℕ
 endsOf a = endsTo (variablesSet noneSet (a .sets)) 8

@@ -2,13 +2,14 @@
 use mathlib.Core.Path.{_≡_, refl, sym, _∙_}
 use mathlib.Core.Bool.{Bool}
 use mathlib.Core.Logic.{⊎-elim}
-use Prim.Native.Nat.{ℕ, _≤_, _-_}
+use Prim.Native.Nat.{ℕ, _+_, _≤_, _-_}
 use native.Mathlib.Omega.{arith}
 use borrow.Author.Needs.{needs}
 use lib.ListN.{getD}
 use Rattle.rows.specs.Bounds.{noRow}
-use Rattle.frame.specs.Masks.{clearBelow, maskTo, maskBy}
-use Rattle.frame.proofs.MaskLaws.{mask-more, mask-same}
+use Rattle.frame.specs.Masks.{clearBelow, maskBy}
+use Rattle.sets.specs.Sets.{pairsTo}
+use Rattle.sets.proofs.Laws.{pair-more, pair-same}
 use Rattle.frame.proofs.mask_by.Statement.{statement}
 use Rattle.frame.proofs.mask_by.Tie as tie
 use Rattle.frame.proofs.is_clear.Reads as is-clear-reads
@@ -21,7 +22,7 @@ abbrev μ-loop : tie.MeasureT-loop
 μ-loop n set predicates mask₀ j₀ mask j = n - j
 
 loop-holds : tie.Need-loop-holds Inv-loop μ-loop
-unfolding maskTo
+unfolding pairsTo
 loop-holds c = (omega arith, refl)
 
 mul-is-clear : tie.Need-mul-is-clear Inv-loop μ-loop
@@ -52,8 +53,8 @@ loop-again c =
     let clear : ℕ → Bool = λ j. clearBelow (a .set) (getD (a .t1) j noRow .coef) 8 in
     let is = c .before .is-clear .ensures in (
       omega arith,
-      ⊎-elim (λ w. rw (w .2) (mask-more clear (l .loop .j) (l .loop .mask) (l .loop .inv .1) (sym is ∙ w .0 .taken) (w .1 .result) (w .1 .ensures)))
-          (λ w. rw (w .1) (mask-same clear (l .loop .j) (l .loop .mask) (l .loop .inv .1) (sym is ∙ w .0 .left))) (c .if1 .came),
+      ⊎-elim (λ w. rw (w .2) (pair-more (λ j. j) (λ j. 14 + j) clear (l .loop .j) (l .loop .mask) (l .loop .inv .1) (sym is ∙ w .0 .taken) (w .1 .result) (w .1 .ensures)))
+          (λ w. rw (w .1) (pair-same (λ j. j) (λ j. 14 + j) clear (l .loop .j) (l .loop .mask) (l .loop .inv .1) (sym is ∙ w .0 .left))) (c .if1 .came),
     )
 
 returns : tie.Need-returns Inv-loop μ-loop

@@ -5,7 +5,9 @@ use Prim.Native.Nat.{_≤_, _-_}
 use native.Mathlib.Omega.{arith}
 use borrow.Author.Needs.{needs}
 use Rattle.verdict.specs.Working.{endsTo}
-use Rattle.verdict.proofs.Asked.{ends-more, ends-same}
+use Rattle.sets.specs.Sets.{pairsTo}
+use Rattle.sets.proofs.Laws.{pair-more, pair-same}
+use Rattle.gather.specs.Gathering.{placeOf}
 use Rattle.verdict.proofs.ends_of.Statement.{statement}
 use Rattle.verdict.proofs.ends_of.Tie as tie
 
@@ -16,7 +18,7 @@ abbrev μ-loop : tie.MeasureT-loop
 μ-loop set w₀ v₀ w v = 8 - v
 
 loop-holds : tie.Need-loop-holds Inv-loop μ-loop
-unfolding endsTo
+unfolding pairsTo
 loop-holds c = (omega arith, refl)
 
 array-read-if1 : tie.Need-array-read-if1 Inv-loop μ-loop
@@ -37,8 +39,8 @@ loop-less c = search needs
 loop-again : tie.Need-loop-again Inv-loop μ-loop
 loop-again c =
     let l = c .before .before in
-    ⊎-elim (λ w. rw (w .2) (omega arith, ends-more _ (l .loop .v) (l .loop .w) (l .loop .inv .1) (w .0 .taken) (w .1 .result) (w .1 .ensures)))
-    (λ w. rw (w .1) (omega arith, ends-same _ (l .loop .v) (l .loop .w) (l .loop .inv .1) (w .0 .left))) (c .if1 .came)
+    ⊎-elim (λ w. rw (w .2) (omega arith, pair-more (placeOf 3) (placeOf 4) _ (l .loop .v) (l .loop .w) (l .loop .inv .1) (w .0 .taken) (w .1 .result) (w .1 .ensures)))
+    (λ w. rw (w .1) (omega arith, pair-same (placeOf 3) (placeOf 4) _ (l .loop .v) (l .loop .w) (l .loop .inv .1) (w .0 .left))) (c .if1 .came)
 
 returns : tie.Need-returns Inv-loop μ-loop
 returns c =
