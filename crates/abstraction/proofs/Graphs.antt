@@ -5,6 +5,7 @@ use mathlib.Core.Logic.{inl, inr, ⊎-elim, _↔_}
 use mathlib.Core.List.{List, [], _++_, map, append-nil}
 use Prim.Native.Nat.{ℕ, zero, suc, _+_, _-_, _%_, _^_, _<_, _≤_}
 use native.Mathlib.Omega.{arith}
+use lib.Bits.{and-zero-l}
 use lib.ListN.{length, getD}
 use borrow.Author.Tests.{eqb-true, eq-eqb, ltb-true}
 use Rattle.integers.proofs.Tests.{and-true as both-true, or-cases, same-test}
@@ -19,11 +20,11 @@ use Rattle.frame.proofs.MaskTable.{masks-at}
 use Rattle.sets.specs.Sets.{bitOf, Member, apart}
 use Rattle.sets.proofs.Bits.{bit-mod}
 use Rattle.sets.proofs.Laws.{mixed-is, Paired, pairs-are}
-use Rattle.gather.specs.Gathering.{cannot, holds, fails, Entry, entryOf, gathered, withKept, blocked, successorOf}
+use Rattle.gather.specs.Gathering.{cannot, holds, fails, Entry, entryOf, gatherFrom, gathered, known, blocked, successorOf}
 use Rattle.gather.specs.declared.Successor.{Successor}
 use Rattle.gather.specs.declared.Successor.the-variants.{Nothing, Set}
-use Rattle.gather.proofs.Shown.{never}
-use Rattle.gather.proofs.Successors.{successor-set, kept-is, kept-none}
+use Rattle.gather.proofs.Shown.{never, known-is}
+use Rattle.gather.proofs.Successors.{successor-set}
 use Rattle.words.specs.LiteralSets.{Literal, B, NotB, predicateOf, literalIf, literalsIn, setOf, has}
 use Rattle.formula.specs.Formula.{Monomial, False, And, Disabled, Then, and, follows, conjunct, conjuncts}
 use Rattle.search.specs.Search.{explored}
@@ -121,7 +122,7 @@ module _ (p : Program) (ok : WellFormed p) (ls : List Lemma) (good : Each (Lemma
     word = gathered source set tables
 
     abbrev full : ℕ
-    full = withKept mask set word
+    full = known mask source set tables
 
     abbrev pub here : Successor
     here = successorOf full
@@ -169,37 +170,45 @@ module _ (p : Program) (ok : WellFormed p) (ls : List Lemma) (good : Each (Lemma
     shown-past (NotB j) le = unknown FailsAfter j (ltb-true j preds) le
 
     -- ---- both: a literal's digit says that it follows
-    full-at : (q : ℕ) → has q full ≡ (has q word || (has q mask && has q set))
-    full-at q =
-        let (to, back) = kept-is mask set word q in
+    full-at : (q : ℕ) → q < 64 → has q full ≡ (has q word || (has q mask && has q set))
+    full-at q l =
+        let (to, back) = known-is mask source set q tables l in
         let (split, join) = or-cases (has q word) (has q mask && has q set) in
         same-test (has q full) (has q word || (has q mask && has q set))
         (λ h. join (⊎-elim (λ m. inl (eq-eqb (bitOf q word) 1 m)) (λ w. inr (rw (eq-eqb (bitOf q mask) 1 (w .1), eq-eqb (bitOf q set) 1 (w .0)) refl)) (to (eqb-true (bitOf q full) 1 h))))
         (λ h. eq-eqb (bitOf q full) 1 (back (⊎-elim (λ e. inl (eqb-true (bitOf q word) 1 e))
         (λ e. let (a, b) = both-true (has q mask) (has q set) e in inr (eqb-true (bitOf q set) 1 b, eqb-true (bitOf q mask) 1 a)) (split h))))
 
-    abbrev known : Literal → Bool
-    known = follows (shown p ls source (literalsIn 14 set)) (untouched p source) (λ m. among m (literalsIn 14 set))
+    -- past the literals nothing is kept
+    pub past-at : (q : ℕ) → 28 ≤ q → q < 64 → has q full ≡ has q word
+    past-at q h l = full-at q l ∙ rw (unmasked q (λ j b. (λ e. omega (arith, few), λ e. omega (arith, few)))) (or-false (has q word))
 
-    known-at : (m : Literal) → predicateOf m < preds → known m ≡ digit full m
+    place-few : (m : Literal) → predicateOf m < 14 → placeIn m < 64
+    place-few (B j) h = omega arith
+    place-few (NotB j) h = omega arith
+
+    abbrev knows : Literal → Bool
+    knows = follows (shown p ls source (literalsIn 14 set)) (untouched p source) (λ m. among m (literalsIn 14 set))
+
+    known-at : (m : Literal) → predicateOf m < preds → knows m ≡ digit full m
     known-at m h =
         let lt : predicateOf m < 14 = omega (arith, few) in
-        rw (shown-at m lt, ← mask-at m h, among-in set m lt) (sym (full-at (placeIn m)))
+        rw (shown-at m lt, ← mask-at m h, among-in set m lt) (sym (full-at (placeIn m) (place-few m lt)))
 
     known-past : (m : Literal) → preds ≤ predicateOf m → predicateOf m < 14 → digit full m ≡ false
-    known-past m le lt = full-at (placeIn m) ∙ rw (← shown-at m lt, shown-past m le, mask-past m le lt) refl
+    known-past m le lt = full-at (placeIn m) (place-few m lt) ∙ rw (← shown-at m lt, shown-past m le, mask-past m le lt) refl
 
     blocked-at : shown p ls source (literalsIn 14 set) Disabled ≡ blocked full
     blocked-at =
         sym (applies-is p ok ls good source set CannotHappen 0 cannot)
-        ∙ sym (full-at 44 ∙ rw (unmasked 44 (λ j l. (λ e. omega (arith, few), λ e. omega (arith, few)))) (or-false (has 44 word)))
+        ∙ sym (past-at 44 (omega arith) (omega arith))
 
     pub successor-is : successor p ls source (literalsIn 14 set) ≡ monomialOf here
     successor-is =
         let all : (14 - preds) + preds ≡ 14 = omega (arith, few) in
-        ap (λ (b : Bool). cond b False (conjuncts known preds)) blocked-at
+        ap (λ (b : Bool). cond b False (conjuncts knows preds)) blocked-at
         ∙ ap (cond (blocked full) False)
-        (conjuncts-alike known (digit full) preds (λ j l. (known-at (B j) l, known-at (NotB j) l))
+        (conjuncts-alike knows (digit full) preds (λ j l. (known-at (B j) l, known-at (NotB j) l))
         ∙ sym (conjuncts-more (digit full) preds (14 - preds) (λ j le lt. (known-past (B j) le (omega arith), known-past (NotB j) le (omega arith)))) ∙ ap (conjuncts (digit full)) all)
         ∙ formula-is full
 
@@ -212,7 +221,7 @@ module _ (p : Program) (ok : WellFormed p) (ls : List Lemma) (good : Each (Lemma
 
   starts : startOf tables ≡ answer (start p ls)
   unfolding literalsIn
-  starts = ap (λ (w : ℕ). answerOf (successorOf w)) (sym (kept-none (getD (masksOf p) START 0) (gathered START 0 tables))) ∙ answer-is START 0
+  starts = ap (λ (g : ℕ). answerOf (successorOf (gatherFrom START 0 g tables))) (sym (and-zero-l (getD (masksOf p) START 0))) ∙ answer-is START 0
 
 -- the tables of the accepted lemmas, with the masks of what each action keeps, give the graph of the list
 pub same-graph : (p : Program) → WellFormed p → (ls : List Lemma) → Each (LemmaOk p) ls → graphOf (map entryOf (claims p ls)) (masksOf p) (length (p .actions)) ≡ graph p ls

@@ -22,7 +22,7 @@ use Rattle.reader.specs.Results.{zeroRow}
 use Rattle.actions.specs.Results.{variablesSet, noneSet}
 use Rattle.programs.specs.declared.Image.{Image}
 use Rattle.programs.specs.declared.Shape.{Shape}
-use Rattle.programs.specs.Images.{imageOf}
+use Rattle.programs.specs.Images.{noShape, imageOf}
 use Rattle.programs.proofs.Places.{stored-at}
 use Rattle.programs.proofs.Tables.{table-at, table-past}
 use Rattle.runs.specs.Runs.{actionOf, predicate}
@@ -47,12 +47,22 @@ unfolding pairsTo
 mask-alike t u zero h = refl
 mask-alike t u (suc n) h = rw (h n (omega arith), mask-alike t u n (λ j l. h j (omega arith)))
 
+-- they are the parts of a program's image
+pub record PartsOf (p : Program) (actions : ℕ) (shapes : List Shape) (predicates : List Row) (n : ℕ) : Type 0 where
+  pub actions-are : actions ≡ length (p .actions)
+  pub shapes-are : shapes ≡ imageOf p .shapes
+  pub predicates-are : predicates ≡ imageOf p .pred
+  pub n-is : n ≡ length (p .predicates)
+
+pub mask-stored : (p : Program) {actions : ℕ} {shapes : List Shape} {predicates : List Row} {n : ℕ} → PartsOf p actions shapes predicates n
+    → length (p .actions) ≤ 16 → length (p .predicates) ≤ 14 → (k : ℕ) → k < length (p .actions) → maskBy predicates (getD shapes k noShape .set) n ≡ maskOf p (actionOf p k)
+mask-stored p parts few small k l =
+    rw (parts .shapes-are, parts .predicates-are, parts .n-is, stored-shape p few {g = imageOf p} refl k noShape l)
+    (mask-alike _ _ (length (p .predicates)) (λ j h. ap (λ (r : Row). clearBelow (variablesSet noneSet (actionOf p k .sets)) (r .coef) 8) (stored-at 14 zeroRow (p .predicates) j noRow h small)))
+
 module _ (p : Program) {image : Image} (same : image ≡ imageOf p) where
-  pub mask-stored : length (p .actions) ≤ 16 → length (p .predicates) ≤ 14 → (k : ℕ) (d : Shape) → k < length (p .actions)
-      → maskBy (image .pred) (getD (image .shapes) k d .set) (image .preds) ≡ maskOf p (actionOf p k)
-  mask-stored few small k d l =
-      rw (stored-shape p few same k d l, ap (λ (y : Image). y .preds) same, ap (λ (y : Image). y .pred) same)
-      (mask-alike _ _ (length (p .predicates)) (λ j h. ap (λ (r : Row). clearBelow (variablesSet noneSet (actionOf p k .sets)) (r .coef) 8) (stored-at 14 zeroRow (p .predicates) j noRow h small)))
+  pub parts-of : PartsOf p (image .actions) (image .shapes) (image .pred) (image .preds)
+  parts-of = rw same (record { actions-are = refl; shapes-are = refl; predicates-are = refl; n-is = refl })
 
   module _ (ok : WellFormed p) where
     pub actions-few : image .actions ≤ 16

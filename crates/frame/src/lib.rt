@@ -7,11 +7,11 @@ ghost use lib.ListN.{getD};
 ghost use Rattle.rows.specs.Bounds.{Read, noRow};
 ghost use Rattle.grammar.specs.Programs.{Program};
 ghost use Rattle.grammar.specs.WellFormed.{WellFormed};
-ghost use Rattle.programs.specs.Images.{imageOf};
-ghost use Rattle.runs.specs.Runs.{actionOf};
+ghost use Rattle.programs.specs.Images.{noShape, imageOf};
 ghost use Rattle.sets.specs.Sets.{withPair};
-ghost use Rattle.frame.specs.Masks.{clearBelow, maskBy, maskOf, masksOf};
+ghost use Rattle.frame.specs.Masks.{clearBelow, maskBy, masksOf};
 use programs::Image;
+use programs::Shape;
 use rows::Row;
 
 // The number is 0.
@@ -64,28 +64,29 @@ fn mask_by(predicates: [Row; 14], n: usize, set: [bool; 8]) -> u32
     mask
 }
 
-// Both literals of each predicate that action k leaves untouched.
-fn mask_of(image: Image, k: usize) -> u32
-    requires { ⌜ (k < image .actions) × ((p : Program) × WellFormed p × (image ≡ imageOf p)) ⌝ }
-    ensures { λ r. ⌜ ((p : Program) → image ≡ imageOf p → r ≡ maskOf p (actionOf p k)) ⌝ }
+// Which variables action k sets.
+fn set_at(shapes: [Shape; 16], k: usize) -> [bool; 8]
+    requires { ⌜ k < 16 ⌝ }
+    ensures { λ r. ⌜ r ≡ getD shapes k noShape .set ⌝ }
 {
-    let shape = image.shapes[k];
-    let set = shape.set;
-    let predicates = image.pred;
-    let n = image.preds;
-    mask_by(predicates, n, set)
+    let shape = shapes[k];
+    shape.set
 }
 
-// The same for each action.
+// For each action both literals of each predicate that it leaves untouched.
 pub fn masks(image: Image) -> [u32; 16]
     requires { ⌜ ((p : Program) × WellFormed p × (image ≡ imageOf p)) ⌝ }
     ensures { λ r. ⌜ ((p : Program) → image ≡ imageOf p → r ≡ masksOf p) ⌝ }
 {
     let mut masks = [0u32; 16];
     let actions = image.actions;
+    let shapes = image.shapes;
+    let predicates = image.pred;
+    let n = image.preds;
     let mut action: usize = 0;
     while action < actions {
-        masks[action] = mask_of(image, action);
+        let set = set_at(shapes, action);
+        masks[action] = mask_by(predicates, n, set);
         action += 1;
     }
     masks

@@ -11,7 +11,7 @@ use native.Mathlib.Numerals.{add-one}
 use lib.ListN.{length, drop, getD}
 use Rattle.words.specs.Words.{payload, literalsOf}
 use Rattle.words.specs.declared.Literals.{Literals}
-use Rattle.gather.specs.Gathering.{Entry, Table, gathered, withKept, successorOf}
+use Rattle.gather.specs.Gathering.{Entry, Table, known, successorOf}
 use Rattle.search.specs.Search.{Answer, Origin, From, Graph, Result, Done, Over, count, links, nodeWord, answered, acted, turns}
 use Rattle.search.proofs.Steps.{Keeps, turns-keeps, turns-over}
 use Rattle.records.specs.Records.{mostNodes, graphWords, recordPlace}
@@ -26,14 +26,12 @@ pub turned-as : (o : Origin) {l l′ : List ℕ} {a n x e e′ : ℕ} {r : Explo
     → Turned (λ g. answered mostNodes g o z) l a n x e r l′ e′ → Turned (λ g. answered mostNodes g o y) l a n x e r l′ e′
 turned-as o {l} {l′} {a} {n} {x} {e} {e′} {r} y z same t = subst (λ (u : Answer). Turned (λ g. answered mostNodes g o u) l a n x e r l′ e′) (sym same) t
 
--- the table of the set in a node's word, with what is kept, gives the successors of that word
-pub table-gives : (es : List Entry) (kept : List ℕ) (w u : ℕ) (s : Literals) (t : List ℕ) (j v : ℕ) → u ≡ w → s ≡ literalsOf u → Table (s .0) es t → j < 16
-    → v ≡ withKept (getD kept j 0) (s .0) (getD t j 0) → nextOf es kept w j ≡ answerOf (successorOf v)
-table-gives es kept w u s t j v e is T h f =
+-- the table of the set in a node's word gives the successors of that word
+pub table-gives : (es : List Entry) (kept : List ℕ) (w u : ℕ) (s : Literals) (t : List ℕ) (j : ℕ) → u ≡ w → s ≡ literalsOf u → Table kept (s .0) es t → j < 16
+    → nextOf es kept w j ≡ answerOf (successorOf (getD t j 0))
+table-gives es kept w u s t j e is T h =
     ap (λ (y : ℕ). answerOf (successorOf y))
-    (ap (λ (x : ℕ). withKept (getD kept j 0) (payload x) (gathered j (payload x) es)) (sym e)
-    ∙ ap (λ (x : Literals). withKept (getD kept j 0) (x .0) (gathered j (x .0) es)) (sym is)
-    ∙ ap (withKept (getD kept j 0) (s .0)) (sym (T .same j h)) ∙ sym f)
+    (ap (λ (v : ℕ). known (getD kept j 0) j (payload v) es) (sym e) ∙ ap (λ (v : Literals). known (getD kept j 0) j (v .0) es) (sym is) ∙ sym (T .same j h))
 
 abbrev pub Still : List ℕ → Result → List ℕ → ℕ → ℕ → ℕ → ℕ → Type 0
 Still l₀ (Done g) l a n x e = Kept l₀ l a n x e g

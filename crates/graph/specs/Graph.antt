@@ -10,7 +10,7 @@ use mathlib.Core.List.{List}
 use lib.ListN.{getD}
 use Rattle.words.specs.Words.{payload, word, SETS}
 use Rattle.words.specs.Limits.{START}
-use Rattle.gather.specs.Gathering.{Entry, gathered, withKept, successorOf}
+use Rattle.gather.specs.Gathering.{Entry, gathered, known, successorOf}
 use Rattle.gather.specs.declared.Successor.{Successor}
 use Rattle.gather.specs.declared.Successor.the-variants.{Nothing, Set}
 use Rattle.search.specs.Search.{Answer, To, None, Result, explored}
@@ -21,7 +21,7 @@ answerOf (Set s) = To (word SETS s)
 answerOf Nothing = None
 
 abbrev pub nextOf : List Entry → List ℕ → ℕ → ℕ → Answer
-nextOf es kept w j = answerOf (successorOf (withKept (getD kept j 0) (payload w) (gathered j (payload w) es)))
+nextOf es kept w j = answerOf (successorOf (known (getD kept j 0) j (payload w) es))
 
 abbrev pub startOf : List Entry → Answer
 startOf es = answerOf (successorOf (gathered START 0 es))

@@ -22,7 +22,7 @@ fn node_word(set: u32) -> u32
     Kind::SETS.word(set)
 }
 
-// The turn of action j at node k, given what is shown there for it, and kept.
+// The turn of action j at node k, given what is known there after it.
 fn act(
     graph: &mut [u32],
     hints: &mut [u16],
@@ -53,7 +53,7 @@ fn turn(
     premises: &[u32],
     keys: &[u32],
     n: usize,
-    kept: [u32; 16],
+    kept: &[u32],
     graph: &mut [u32],
     hints: &mut [u16],
     nodes: usize,
@@ -61,19 +61,18 @@ fn turn(
     actions: usize,
     k: usize,
 ) -> Explored
-    requires { ⌜ (n ≤ length (now premises)) × (n ≤ length (now keys)) × (graphWords ≤ length (now graph)) × (hintCount ≤ length (now hints))
+    requires { ⌜ (n ≤ length (now premises)) × (n ≤ length (now keys)) × (16 ≤ length (now kept)) × (graphWords ≤ length (now graph)) × (hintCount ≤ length (now hints))
         × (nodes ≤ mostNodes) × (actions ≤ 16) × (k < nodes) × (edges ≤ k * actions) ⌝ }
-    ensures { λ r. ⌜ Turned (λ h. turns (nextOf (entries (now (premises .entry)) (now (keys .entry)) n) kept) mostNodes h k actions)
+    ensures { λ r. ⌜ Turned (λ h. turns (nextOf (entries (now (premises .entry)) (now (keys .entry)) n) (now (kept .entry))) mostNodes h k actions)
         (now (graph .entry)) actions nodes edges (k * actions) r (now (graph .exit)) (k * actions + actions) ⌝ }
 {
-    let node = Literals::of(records::word_at(&graph[..], actions, k)).0;
-    let shown = gather::gather_all(premises, keys, n, node);
+    let node = records::word_at(&graph[..], actions, k);
+    let known = gather::gather_all(premises, keys, n, Literals::of(node).0, kept);
     let mut m = nodes;
     let mut x = edges;
     let mut j: usize = 0;
     while j < actions {
-        let known = gather::with_kept(shown[j], node, kept[j]);
-        let r = act(&mut *graph, &mut *hints, m, x, actions, k, j, known);
+        let r = act(&mut *graph, &mut *hints, m, x, actions, k, j, known[j]);
         let Explored::Whole(c, d) = r else {
             return Explored::Full;
         };
@@ -89,15 +88,15 @@ fn explore_from(
     premises: &[u32],
     keys: &[u32],
     n: usize,
-    kept: [u32; 16],
+    kept: &[u32],
     graph: &mut [u32],
     hints: &mut [u16],
     actions: usize,
     start: u32,
 ) -> Explored
-    requires { ⌜ (n ≤ length (now premises)) × (n ≤ length (now keys)) × (graphWords ≤ length (now graph)) × (hintCount ≤ length (now hints))
+    requires { ⌜ (n ≤ length (now premises)) × (n ≤ length (now keys)) × (16 ≤ length (now kept)) × (graphWords ≤ length (now graph)) × (hintCount ≤ length (now hints))
         × (actions ≤ 16) ⌝ }
-    ensures { λ r. ⌜ Filled actions (explored (nextOf (entries (now (premises .entry)) (now (keys .entry)) n) kept) actions mostNodes (To start)) r
+    ensures { λ r. ⌜ Filled actions (explored (nextOf (entries (now (premises .entry)) (now (keys .entry)) n) (now (kept .entry))) actions mostNodes (To start)) r
         (now (graph .entry)) (now (graph .exit)) ⌝ }
 {
     records::begin(&mut *graph, start);
@@ -132,13 +131,13 @@ pub fn explore(
     premises: &[u32],
     keys: &[u32],
     n: usize,
-    kept: [u32; 16],
+    kept: &[u32],
     actions: usize,
     graph: &mut [u32],
 ) -> Explored
-    requires { ⌜ (n ≤ length (now premises)) × (n ≤ length (now keys)) × (graphWords ≤ length (now graph)) × (actions ≤ 16) ⌝ }
-    ensures { λ r. ⌜ (r ≡ exploredOf (graphOf (entries (now (premises .entry)) (now (keys .entry)) n) kept actions))
-        × (now (graph .exit) ≡ graphList actions (graphOf (entries (now (premises .entry)) (now (keys .entry)) n) kept actions) (now (graph .entry))) ⌝ }
+    requires { ⌜ (n ≤ length (now premises)) × (n ≤ length (now keys)) × (16 ≤ length (now kept)) × (graphWords ≤ length (now graph)) × (actions ≤ 16) ⌝ }
+    ensures { λ r. ⌜ (r ≡ exploredOf (graphOf (entries (now (premises .entry)) (now (keys .entry)) n) (now (kept .entry)) actions))
+        × (now (graph .exit) ≡ graphList actions (graphOf (entries (now (premises .entry)) (now (keys .entry)) n) (now (kept .entry)) actions) (now (graph .entry))) ⌝ }
 {
     records::clear(&mut *graph, records::ROOM);
     let next = gather::successor_of(gather::gather(

@@ -1,17 +1,19 @@
 -- A whole graph judged: what the first finding needs, and the verdict and path that it gives.
 use mathlib.Core.Path.{_≡_, refl, sym, ap, subst}
 use mathlib.Core.Bool.{Bool}
-use mathlib.Core.List.{List, [], _∷_}
+use mathlib.Core.List.{List, [], _∷_, map}
 use Prim.Native.Nat.{ℕ, _≤_}
 use native.Mathlib.Omega.{arith}
-use lib.ListN.{length}
+use lib.ListN.{length, replicate}
+use lib.Seq.{length-sets}
 use Rattle.grammar.specs.Programs.{Program}
 use Rattle.programs.specs.declared.Image.{Image}
-use Rattle.lemmas.specs.Lemmas.{Lemma}
+use Rattle.lemmas.specs.Lemmas.{goalNumber, Lemma}
 use Rattle.lemmas.specs.Sources.{theProgram, Held}
 use Rattle.lemmas.proofs.SourceLaws.{counts}
-use Rattle.frame.specs.Masks.{masksOf}
-use Rattle.gather.specs.Gathering.{Entry}
+use Rattle.frame.specs.Masks.{maskOf, masksOf}
+use Rattle.gather.specs.Gathering.{Entry, placeOf}
+use Rattle.gather.proofs.Shown.{place-told}
 use Rattle.gather.specs.declared.Successor.{Successor}
 use Rattle.gather.specs.declared.Successor.the-variants.{Set}
 use Rattle.gather.specs.declared.Successor.the-variants.{Nothing as NoSet}
@@ -20,7 +22,7 @@ use Rattle.search.proofs.Theorem.{Whole, whole}
 use Rattle.records.specs.Records.{mostNodes, graphList}
 use Rattle.abstraction.specs.Abstraction.{start, answer}
 use Rattle.abstraction.proofs.ClaimLaws.{applies-is}
-use Rattle.abstraction.proofs.Graphs.{monomialOf, here, successor-is}
+use Rattle.abstraction.proofs.Graphs.{monomialOf, here, past-at, successor-is}
 use Rattle.verdict.specs.Verdicts.{Finding, Forbid, RunOff, hasNext, stepsTo}
 use Rattle.verdict.specs.Working.{Traced, askedEnds, foundOf, given, Judging}
 use Rattle.verdict.proofs.Traces.{traced}
@@ -86,8 +88,12 @@ module _ (ws : List ℕ) {image : Image} (held : Held ws image) {es : List Entry
   pub judging : {asked kept : List ℕ} → asked ≡ askedEnds p → kept ≡ masksOf p → Judging p ls g es (image .literals) (image .forbidden) asked kept (image .actions) l
   judging {asked} {kept} a m =
       subst (λ (asked : List ℕ). Judging p ls g es (image .literals) (image .forbidden) asked kept (image .actions) l) (sym a)
-      (judged held (λ source set goal index h. rw (r .tables) (applies-is p (r .good) ls (r .each) source set goal index h))
+      (judged held (λ source set goal index h past. rw (r .tables, m, past-at p (r .good) ls (r .each) source set (placeOf (goalNumber goal) index) past (place-told h .0)) (applies-is p (r .good) ls (r .each) source set goal index h))
       (λ source set. rw (r .tables, m, successor-is p (r .good) ls (r .each) source set) (given-next (here p (r .good) ls (r .each) source set))) (r .before) listed-as)
 
   pub image-few : (image .forbidden ≤ 8) × (image .actions ≤ 16)
   image-few = (omega (arith, ap (λ (y : Image). y .forbidden) (held .same), r .good .forbidden .few), omega (arith, actions-are, r .good .actions .few))
+
+-- a program's masks are 16 numbers
+pub masks-long : (p : Program) {kept : List ℕ} → kept ≡ masksOf p → 16 ≤ length kept
+masks-long p e = rw (e, length-sets (replicate 16 0) 0 (map (maskOf p) (p .actions))) (omega arith)

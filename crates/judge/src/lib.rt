@@ -38,14 +38,14 @@ pub enum Judged {
 fn first_finding(
     words: &[u32],
     image: Image,
-    kept: [u32; 16],
+    kept: &[u32],
     premises: &[u32],
     keys: &[u32],
     n: usize,
     graph: &[u32],
     nodes: usize,
 ) -> Found
-    requires { ⌜ Held (now words) image × (kept ≡ masksOf (theProgram (now words))) × (n ≤ length (now premises)) × (n ≤ length (now keys))
+    requires { ⌜ Held (now words) image × (now kept ≡ masksOf (theProgram (now words))) × (n ≤ length (now premises)) × (n ≤ length (now keys))
         × (graphWords ≤ length (now graph)) × ((ls : List Lemma) × (g : Graph) × (edges : ℕ)
         × Ready (theProgram (now words)) ls g (entries (now premises) (now keys) n) nodes edges (now graph)) ⌝ }
     ensures { λ r. ⌜ Within nodes r × ((ls : List Lemma) (g : Graph) (edges : ℕ)
@@ -74,7 +74,7 @@ fn first_finding(
 fn judge_graph(
     words: &[u32],
     image: Image,
-    kept: [u32; 16],
+    kept: &[u32],
     premises: &[u32],
     keys: &[u32],
     n: usize,
@@ -83,7 +83,7 @@ fn judge_graph(
     edges: usize,
     path: &mut [u32],
 ) -> Judged
-    requires { ⌜ Held (now words) image × (kept ≡ masksOf (theProgram (now words))) × (n ≤ length (now premises)) × (n ≤ length (now keys))
+    requires { ⌜ Held (now words) image × (now kept ≡ masksOf (theProgram (now words))) × (n ≤ length (now premises)) × (n ≤ length (now keys))
         × (graphWords ≤ length (now graph)) × (pathWords ≤ length (now path))
         × ((ls : List Lemma) × (g : Graph) × Ready (theProgram (now words)) ls g (entries (now premises) (now keys) n) nodes edges (now graph)) ⌝ }
     ensures { λ r. ⌜ ((ls : List Lemma) (g : Graph)
@@ -167,7 +167,7 @@ pub fn survey(words: &[u32], lemmas: &[u32], graph: &mut [u32]) -> Surveyed
     let n = tables.count;
     let kept = frame::masks(image);
     let actions = image.actions;
-    let explored = graph::explore(&premises[..], &keys[..], n, kept, actions, &mut *graph);
+    let explored = graph::explore(&premises[..], &keys[..], n, &kept[..], actions, &mut *graph);
     match explored {
         Explored::Full => stopped(image, Refusal::Nodes),
         Explored::Whole(nodes, edges) => Surveyed {
@@ -211,7 +211,7 @@ pub fn judge(words: &[u32], lemmas: &[u32], graph: &mut [u32], path: &mut [u32])
     judge_graph(
         words,
         image,
-        kept,
+        &kept[..],
         &premises[..],
         &keys[..],
         n,

@@ -22,7 +22,7 @@ use Rattle.lemmas.proofs.LemmaLaws.{action-rising}
 use Rattle.lemmas.proofs.HeadLaws.{marks-of}
 use Rattle.sets.specs.Sets.{Member}
 use Rattle.sets.proofs.Laws.{pairs-are}
-use Rattle.gather.specs.Gathering.{Placed, low-end, high-end, Entry, placeOf, gathered, withKept, successorOf, firstMissing}
+use Rattle.gather.specs.Gathering.{Placed, low-end, high-end, Entry, placeOf, known, successorOf, firstMissing}
 use Rattle.gather.proofs.Shown.{never, missing-is}
 use Rattle.search.proofs.Count.{lt-or-le, eq-or-ne}
 use Rattle.words.specs.LiteralSets.{literalsIn, has}
@@ -34,28 +34,24 @@ use Rattle.verdict.specs.Working.{endsTo, endsOf, foundOf, endAt, given,
 use Rattle.verdict.proofs.Combinations.{or-right}
 
 -- ---- the loop over the actions
-module _ (asked kept shown : List ℕ) (set k n j : ℕ) (same : firstUnshown asked kept shown set k j (n - j) ≡ firstUnshown asked kept shown set k 0 n) where
-  -- what is known of action j
-  abbrev here : ℕ
-  here = withKept (getD kept j 0) set (getD shown j 0)
-
+module _ (asked shown : List ℕ) (k n j : ℕ) (same : firstUnshown asked shown k j (n - j) ≡ firstUnshown asked shown k 0 n) where
   module _ (h : j < n) where
-    off-at : firstUnshown asked kept shown set k j (n - j)
-        ≡ cond (given (successorOf here)) (endAt k j (firstMissing (getD asked j 0) (getD shown j 0)) (firstUnshown asked kept shown set k (j + 1) (n - (j + 1)))) (firstUnshown asked kept shown set k (j + 1) (n - (j + 1)))
+    off-at : firstUnshown asked shown k j (n - j)
+        ≡ cond (given (successorOf (getD shown j 0))) (endAt k j (firstMissing (getD asked j 0) (getD shown j 0)) (firstUnshown asked shown k (j + 1) (n - (j + 1)))) (firstUnshown asked shown k (j + 1) (n - (j + 1)))
     unfolding firstUnshown
     off-at = let e : n - j ≡ suc (n - (j + 1)) = omega arith in rw (e, add-one j) refl
 
-    pub off-skip : given (successorOf here) ≡ false → firstUnshown asked kept shown set k (j + 1) (n - (j + 1)) ≡ firstUnshown asked kept shown set k 0 n
+    pub off-skip : given (successorOf (getD shown j 0)) ≡ false → firstUnshown asked shown k (j + 1) (n - (j + 1)) ≡ firstUnshown asked shown k 0 n
     off-skip b = sym (off-at ∙ rw b refl) ∙ same
 
-    module _ (b : given (successorOf here) ≡ true) (m : ℕ) (is : m ≡ firstMissing (getD asked j 0) (getD shown j 0)) where
-      pub off-kept : 64 ≤ m → firstUnshown asked kept shown set k (j + 1) (n - (j + 1)) ≡ firstUnshown asked kept shown set k 0 n
+    module _ (b : given (successorOf (getD shown j 0)) ≡ true) (m : ℕ) (is : m ≡ firstMissing (getD asked j 0) (getD shown j 0)) where
+      pub off-kept : 64 ≤ m → firstUnshown asked shown k (j + 1) (n - (j + 1)) ≡ firstUnshown asked shown k 0 n
       off-kept l = sym (off-at ∙ rw (b, ← is, le-ltb m 64 l) refl) ∙ same
 
-      pub off-here : m < 64 → MayRunOff k j (m / 2 % 14) (eqb (m % 2) 1) ≡ firstUnshown asked kept shown set k 0 n
+      pub off-here : m < 64 → MayRunOff k j (m / 2 % 14) (eqb (m % 2) 1) ≡ firstUnshown asked shown k 0 n
       off-here l = sym (off-at ∙ rw (b, ← is, lt-ltb m 64 l) refl) ∙ same
 
-  pub off-end : n ≤ j → Nothing ≡ firstUnshown asked kept shown set k 0 n
+  pub off-end : n ≤ j → Nothing ≡ firstUnshown asked shown k 0 n
   unfolding firstUnshown
   off-end h = let e : n - j ≡ 0 = omega arith in rw e at same
 
@@ -130,9 +126,9 @@ module _ (shows : Goal → ℕ → Bool) (k j m vars : ℕ) (few : vars ≤ 8) (
   ends-first v (s ∷ ss) r f = first-or-more s ss v r f (ends-first (suc (s .variable)) ss (r .1))
 
 -- ---- an action of a program at a node
-module _ (p : Program) (ls : List Lemma) (es : List Entry) (good : WellFormed p)
-    (applying : (source set : ℕ) (goal : Goal) (index : ℕ) → Placed (goalNumber goal) index → has (placeOf (goalNumber goal) index) (gathered source set es) ≡ applies p ls source (literalsIn 14 set) goal index)
-    (set k j : ℕ) where
+module _ (p : Program) (ls : List Lemma) (es : List Entry) (kept : List ℕ) (good : WellFormed p)
+    (applying : (source set : ℕ) (goal : Goal) (index : ℕ) → Placed (goalNumber goal) index → 28 ≤ placeOf (goalNumber goal) index
+    → has (placeOf (goalNumber goal) index) (known (getD kept source 0) source set es) ≡ applies p ls source (literalsIn 14 set) goal index) (set k j : ℕ) where
   abbrev sets-of : List Assignment
   sets-of = actionOf p j .sets
 
@@ -140,7 +136,7 @@ module _ (p : Program) (ls : List Lemma) (es : List Entry) (good : WellFormed p)
   shows = applies p ls j (literalsIn 14 set)
 
   abbrev shown : ℕ
-  shown = gathered j set es
+  shown = known (getD kept j 0) j set es
 
   rising : Rising (length (p .ranges)) 0 sets-of
   rising = action-rising (length (p .ranges)) (p .actions) j (good .actions .each)
@@ -156,14 +152,14 @@ module _ (p : Program) (ls : List Lemma) (es : List Entry) (good : WellFormed p)
       let small : (u : ℕ) → setsVariable sets-of u ≡ true → u < 8 = λ u e. omega (arith, rising-within (length (p .ranges)) 0 sets-of u rising e) in
       record {
         below = λ u e. (
-          λ l. sym (applying j set NotBelow u (low-end (small u e))) ∙ eq-eqb _ 1 (before (placeOf 3 u) l (asked-is (variablesSet noneSet sets-of) 8 (placeOf 3 u) .1 (u, small u e, marks-are u ∙ e, inl refl))),
-          λ l. sym (applying j set NotAbove u (high-end (small u e))) ∙ eq-eqb _ 1 (before (placeOf 4 u) l (asked-is (variablesSet noneSet sets-of) 8 (placeOf 4 u) .1 (u, small u e, marks-are u ∙ e, inr refl))),
+          λ l. sym (applying j set NotBelow u (low-end (small u e)) (omega arith)) ∙ eq-eqb _ 1 (before (placeOf 3 u) l (asked-is (variablesSet noneSet sets-of) 8 (placeOf 3 u) .1 (u, small u e, marks-are u ∙ e, inl refl))),
+          λ l. sym (applying j set NotAbove u (high-end (small u e)) (omega arith)) ∙ eq-eqb _ 1 (before (placeOf 4 u) l (asked-is (variablesSet noneSet sets-of) 8 (placeOf 4 u) .1 (u, small u e, marks-are u ∙ e, inr refl))),
         );
         at = λ l. let (u, h, e, s) = asked-is (variablesSet noneSet sets-of) 8 m .0 (at l .0) in (
           u,
           sym (marks-are u) ∙ e,
-          ⊎-elim (λ q. inl (q, sym (applying j set NotBelow u (low-end h)) ∙ ne-eqb _ 1 (λ z. at l .1 (rw q z))))
-              (λ q. inr (q, sym (applying j set NotAbove u (high-end h)) ∙ ne-eqb _ 1 (λ z. at l .1 (rw q z)))) s,
+          ⊎-elim (λ q. inl (q, sym (applying j set NotBelow u (low-end h) (omega arith)) ∙ ne-eqb _ 1 (λ z. at l .1 (rw q z))))
+              (λ q. inr (q, sym (applying j set NotAbove u (high-end h) (omega arith)) ∙ ne-eqb _ 1 (λ z. at l .1 (rw q z)))) s,
         );
       }
 

@@ -20,7 +20,7 @@ use Rattle.programs.proofs.Places.{noneAction}
 use Rattle.programs.proofs.Tables.{table-at}
 use Rattle.lemmas.specs.Lemmas.{Goal, goalNumber, Lemma}
 use Rattle.lemmas.specs.Sources.{theProgram, Held}
-use Rattle.gather.specs.Gathering.{Placed, Entry, Table, placeOf, gathered, withKept, successorOf, firstMissing}
+use Rattle.gather.specs.Gathering.{Placed, Entry, Table, placeOf, known, successorOf, firstMissing}
 use Rattle.search.specs.Search.{Graph, Done, count, nodeWord}
 use Rattle.records.specs.Records.{graphWords, recordPlace, graphList}
 use Rattle.records.proofs.Listed.{record-at}
@@ -60,8 +60,8 @@ module _ {p : Program} {ls : List Lemma} {g : Graph} {es : List Entry} {literals
       ap (λ (y : ℕ). getD l y 0) (sym e) ∙ rw (J .listed .1) (record-at actions g (count g) (replicate (graphWords - recordPlace actions (count g)) 0 ++ drop graphWords (J .listed .0)) k 0 hk (omega arith))
 
   -- ---- the actions from j on
-  module _ (shown : List ℕ) (T : Table (payload (nodeWord g k)) es shown) where
-    runs-from : (xs : List Action) (j : ℕ) → drop j (p .actions) ≡ xs → firstUnshown asked kept shown (payload (nodeWord g k)) k j (length xs) ≡ foundOf (runsOff p ls (literalsAt g k) k j xs)
+  module _ (shown : List ℕ) (T : Table kept (payload (nodeWord g k)) es shown) where
+    runs-from : (xs : List Action) (j : ℕ) → drop j (p .actions) ≡ xs → firstUnshown asked shown k j (length xs) ≡ foundOf (runsOff p ls (literalsAt g k) k j xs)
     unfolding firstUnshown runsOff
     runs-from [] j e = refl
     runs-from (x ∷ xs) j e =
@@ -70,11 +70,11 @@ module _ {p : Program} {ls : List Lemma} {g : Graph} {es : List Entry} {literals
         let set = payload (nodeWord g k) in
         let asks : getD asked j 0 ≡ endsOf x = ap (λ (y : List ℕ). getD y j 0) (J .ends) ∙ table-at endsOf p few j lt ∙ ap endsOf is in
         rw (asks, T .same j (omega arith), J .leading j set, runs-from xs (suc j) rest)
-        (go (hasNext (successor p ls j (literalsAt g k))) (ends-found p ls es (J .good) (J .applying) set k j x is (runsOff p ls (literalsAt g k) k (suc j) xs)))
+        (go (hasNext (successor p ls j (literalsAt g k))) (ends-found p ls es kept (J .good) (J .applying) set k j x is (runsOff p ls (literalsAt g k) k (suc j) xs)))
       where
         go : (b : Bool)
-            → foundOf (ends (applies p ls j (literalsAt g k)) k j (x .sets) ++ runsOff p ls (literalsAt g k) k (suc j) xs) ≡ endAt k j (firstMissing (endsOf x) (gathered j (payload (nodeWord g k)) es)) (foundOf (runsOff p ls (literalsAt g k) k (suc j) xs))
-            → cond b (endAt k j (firstMissing (endsOf x) (gathered j (payload (nodeWord g k)) es)) (foundOf (runsOff p ls (literalsAt g k) k (suc j) xs))) (foundOf (runsOff p ls (literalsAt g k) k (suc j) xs))
+            → foundOf (ends (applies p ls j (literalsAt g k)) k j (x .sets) ++ runsOff p ls (literalsAt g k) k (suc j) xs) ≡ endAt k j (firstMissing (endsOf x) (known (getD kept j 0) j (payload (nodeWord g k)) es)) (foundOf (runsOff p ls (literalsAt g k) k (suc j) xs))
+            → cond b (endAt k j (firstMissing (endsOf x) (known (getD kept j 0) j (payload (nodeWord g k)) es)) (foundOf (runsOff p ls (literalsAt g k) k (suc j) xs))) (foundOf (runsOff p ls (literalsAt g k) k (suc j) xs))
             ≡ foundOf (cond b (ends (applies p ls j (literalsAt g k)) k j (x .sets)) [] ++ runsOff p ls (literalsAt g k) k (suc j) xs)
         go true h = sym h
         go false h = refl
@@ -98,17 +98,17 @@ module _ {p : Program} {ls : List Lemma} {g : Graph} {es : List Entry} {literals
         ap (MayForbid k) free-is
         ∙ forbids-here (length (p .predicates)) (payload (nodeWord g k)) small k (runsOff p ls (literalsAt g k) k 0 (p .actions)) (p .forbidden) (J .good .forbidden .each) (omega (arith, free-is, J .forbidden-count))
 
-    pub node-off : forbidden ≤ b → (shown : List ℕ) → Table (payload w) es shown → (r : Found) → r ≡ firstUnshown asked kept shown (payload w) k 0 actions → r ≡ foundOf (findingsAt p ls g k)
+    pub node-off : forbidden ≤ b → (shown : List ℕ) → Table kept (payload w) es shown → (r : Found) → r ≡ firstUnshown asked shown k 0 actions → r ≡ foundOf (findingsAt p ls g k)
     node-off h shown T r ir =
-        ir ∙ ap (λ (x : ℕ). firstUnshown asked kept shown x k 0 actions) set-is ∙ ap (λ (n : ℕ). firstUnshown asked kept shown (payload (nodeWord g k)) k 0 n) (J .action-count) ∙ runs-from shown (rw set-is at T) (p .actions) 0 refl
+        ir ∙ ap (λ (n : ℕ). firstUnshown asked shown k 0 n) (J .action-count) ∙ runs-from shown (rw set-is at T) (p .actions) 0 refl
         ∙ forbids-none (length (p .predicates)) (payload (nodeWord g k)) small k (runsOff p ls (literalsAt g k) k 0 (p .actions)) (p .forbidden) (J .good .forbidden .each) (omega (arith, free-is, J .forbidden-count))
 
 -- ---- the node of what is found
-pub off-within : (asked kept shown : List ℕ) (set k j n : ℕ) → Within (k + 1) (firstUnshown asked kept shown set k j n)
+pub off-within : (asked shown : List ℕ) (k j n : ℕ) → Within (k + 1) (firstUnshown asked shown k j n)
 unfolding firstUnshown
-off-within asked kept shown set k j zero = tt
-off-within asked kept shown set k j (suc n) =
-    go (given (successorOf (withKept (getD kept j 0) set (getD shown j 0)))) (ltb (firstMissing (getD asked j 0) (getD shown j 0)) 64) _ _ (firstUnshown asked kept shown set k (suc j) n) (off-within asked kept shown set k (suc j) n)
+off-within asked shown k j zero = tt
+off-within asked shown k j (suc n) =
+    go (given (successorOf (getD shown j 0))) (ltb (firstMissing (getD asked j 0) (getD shown j 0)) 64) _ _ (firstUnshown asked shown k (suc j) n) (off-within asked shown k (suc j) n)
   where
     go : (b m : Bool) (v : ℕ) (high : Bool) (rest : Found) → Within (k + 1) rest → Within (k + 1) (cond b (cond m (MayRunOff k j v high) rest) rest)
     go true true v high rest h = omega arith
@@ -159,9 +159,9 @@ module _ (p : Program) (ls : List Lemma) (g : Graph) (nodes : ℕ) where
 
 -- ---- a graph of a program that has been read
 pub judged : {ws : List ℕ} {image : Image} → Held ws image → {ls : List Lemma} {es : List Entry}
-    → ((source set : ℕ) (goal : Goal) (index : ℕ) → Placed (goalNumber goal) index → has (placeOf (goalNumber goal) index) (gathered source set es) ≡ applies (theProgram ws) ls source (literalsIn 14 set) goal index)
-    → {kept : List ℕ} → ((source set : ℕ) → given (successorOf (withKept (getD kept source 0) set (gathered source set es))) ≡ hasNext (successor (theProgram ws) ls source (literalsIn 14 set)))
-    → {g : Graph}
+    → {kept : List ℕ} → ((source set : ℕ) (goal : Goal) (index : ℕ) → Placed (goalNumber goal) index → 28 ≤ placeOf (goalNumber goal) index
+    → has (placeOf (goalNumber goal) index) (known (getD kept source 0) source set es) ≡ applies (theProgram ws) ls source (literalsIn 14 set) goal index)
+    → ((source set : ℕ) → given (successorOf (known (getD kept source 0) source set es)) ≡ hasNext (successor (theProgram ws) ls source (literalsIn 14 set))) → {g : Graph}
     → {l : List ℕ} (l₀ : List ℕ) → l ≡ graphList (image .actions) (Done g) l₀
     → Judging (theProgram ws) ls g es (image .literals) (image .forbidden) (askedEnds (theProgram ws)) kept (image .actions) l
 judged h applying leading l₀ e = record {

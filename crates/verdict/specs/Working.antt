@@ -25,7 +25,7 @@ use Rattle.actions.specs.Results.{variablesSet, noneSet}
 use Rattle.programs.specs.Images.{tableOf}
 use Rattle.lemmas.specs.Lemmas.{Goal, goalNumber, Lemma}
 use Rattle.sets.specs.Sets.{clashes, pairsTo}
-use Rattle.gather.specs.Gathering.{Placed, Entry, placeOf, gathered, withKept, successorOf, firstMissing}
+use Rattle.gather.specs.Gathering.{Placed, Entry, placeOf, known, successorOf, firstMissing}
 use Rattle.gather.specs.declared.Successor.{Successor}
 use Rattle.gather.specs.declared.Successor.the-variants.{Set}
 use Rattle.gather.specs.declared.Successor.the-variants.{Nothing as NoSet}
@@ -98,13 +98,12 @@ given NoSet = false
 abbrev pub endAt : ℕ → ℕ → ℕ → Found → Found
 endAt k j place other = cond (ltb place 64) (MayRunOff k j (place / 2 % 14) (eqb (place % 2) 1)) other
 
--- n actions from j on, of those that have a successor at a node with these literals
-unfoldable pub firstUnshown : List ℕ → List ℕ → List ℕ → ℕ → ℕ → ℕ → ℕ → Found
-firstUnshown asked kept shown set k j zero = Nothing
-firstUnshown asked kept shown set k j (suc n) =
-    cond (given (successorOf (withKept (getD kept j 0) set (getD shown j 0))))
-    (endAt k j (firstMissing (getD asked j 0) (getD shown j 0)) (firstUnshown asked kept shown set k (suc j) n))
-    (firstUnshown asked kept shown set k (suc j) n)
+-- n actions from j on, of those that have a successor
+unfoldable pub firstUnshown : List ℕ → List ℕ → ℕ → ℕ → ℕ → Found
+firstUnshown asked shown k j zero = Nothing
+firstUnshown asked shown k j (suc n) =
+    cond (given (successorOf (getD shown j 0))) (endAt k j (firstMissing (getD asked j 0) (getD shown j 0)) (firstUnshown asked shown k (suc j) n))
+    (firstUnshown asked shown k (suc j) n)
 
 -- ---- what is judged
 pub record Judging (p : Program) (ls : List Lemma) (g : Graph) (es : List Entry) (literals : List Literals) (forbidden : ℕ)
@@ -115,7 +114,6 @@ pub record Judging (p : Program) (ls : List Lemma) (g : Graph) (es : List Entry)
   pub ends : asked ≡ askedEnds p
   pub action-count : actions ≡ length (p .actions)
   pub listed : (l₀ : List ℕ) × (l ≡ graphList actions (Done g) l₀)
-  pub applying : (source set : ℕ) (goal : Goal) (index : ℕ) → Placed (goalNumber goal) index
-      → has (placeOf (goalNumber goal) index) (gathered source set es) ≡ applies p ls source (literalsIn 14 set) goal index
-  pub leading : (source set : ℕ)
-      → given (successorOf (withKept (getD kept source 0) set (gathered source set es))) ≡ hasNext (successor p ls source (literalsIn 14 set))
+  pub applying : (source set : ℕ) (goal : Goal) (index : ℕ) → Placed (goalNumber goal) index → 28 ≤ placeOf (goalNumber goal) index
+      → has (placeOf (goalNumber goal) index) (known (getD kept source 0) source set es) ≡ applies p ls source (literalsIn 14 set) goal index
+  pub leading : (source set : ℕ) → given (successorOf (known (getD kept source 0) source set es)) ≡ hasNext (successor p ls source (literalsIn 14 set))

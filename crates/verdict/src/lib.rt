@@ -146,7 +146,7 @@ fn first_free(literals: [Literals; 8], n: usize, set: u32) -> usize
     i
 }
 
-// Does what is shown of an action, and kept, give a successor?
+// Does what is known after an action give a successor?
 fn has_successor(known: u64) -> bool
     ensures { λ r. ⌜ r ≡ given (successorOf known) ⌝ }
 {
@@ -159,21 +159,14 @@ fn has_successor(known: u64) -> bool
 
 // The first end of a range that is asked for and not shown at node k, of the actions that have a successor there. The ends of variable v
 // have the places 28 + 2v and 29 + 2v.
-fn first_unshown(
-    asked: [u64; 16],
-    kept: [u32; 16],
-    shown: [u64; 16],
-    actions: usize,
-    set: u32,
-    k: usize,
-) -> Found
+fn first_unshown(asked: [u64; 16], shown: [u64; 16], actions: usize, k: usize) -> Found
     requires { ⌜ actions ≤ 16 ⌝ }
-    ensures { λ r. ⌜ r ≡ firstUnshown asked kept shown set k 0 actions ⌝ }
+    ensures { λ r. ⌜ r ≡ firstUnshown asked shown k 0 actions ⌝ }
 {
     let mut j: usize = 0;
     while j < actions {
         let seen = shown[j];
-        if has_successor(gather::with_kept(seen, set, kept[j])) {
+        if has_successor(seen) {
             let place = gather::first_missing(asked[j], seen);
             if place < 64 {
                 let v = (place / 2 % 14) as usize;
@@ -193,16 +186,16 @@ fn found_at(
     literals: [Literals; 8],
     forbidden: usize,
     asked: [u64; 16],
-    kept: [u32; 16],
+    kept: &[u32],
     actions: usize,
     graph: &[u32],
     k: usize,
 ) -> Found
-    requires { ⌜ (n ≤ length (now premises)) × (n ≤ length (now keys)) × (forbidden ≤ 8) × (actions ≤ 16) × (graphWords ≤ length (now graph))
+    requires { ⌜ (n ≤ length (now premises)) × (n ≤ length (now keys)) × (16 ≤ length (now kept)) × (forbidden ≤ 8) × (actions ≤ 16) × (graphWords ≤ length (now graph))
         × (k < mostNodes) ⌝ }
     ensures { λ r. ⌜ Within (k + 1) r
         × ((p : Program) (ls : List Lemma) (g : Graph)
-        → Judging p ls g (entries (now (premises .entry)) (now (keys .entry)) n) literals forbidden asked kept actions (now (graph .entry)) → k < count g
+        → Judging p ls g (entries (now (premises .entry)) (now (keys .entry)) n) literals forbidden asked (now (kept .entry)) actions (now (graph .entry)) → k < count g
         → r ≡ foundOf (findingsAt p ls g k)) ⌝ }
 {
     let set = records::word_at(graph, actions, k) % 268435456;
@@ -210,8 +203,8 @@ fn found_at(
     if b < forbidden {
         return Found::Forbid(k, b);
     }
-    let shown = gather::gather_all(premises, keys, n, set);
-    first_unshown(asked, kept, shown, actions, set, k)
+    let known = gather::gather_all(premises, keys, n, set, kept);
+    first_unshown(asked, known, actions, k)
 }
 
 // What is found first in a graph, of a program's forbidden combinations and the ends that its actions have to keep to; `kept` has the masks of what each
@@ -223,16 +216,16 @@ pub fn first_finding(
     literals: [Literals; 8],
     forbidden: usize,
     asked: [u64; 16],
-    kept: [u32; 16],
+    kept: &[u32],
     actions: usize,
     graph: &[u32],
     nodes: usize,
 ) -> Found
-    requires { ⌜ (n ≤ length (now premises)) × (n ≤ length (now keys)) × (forbidden ≤ 8) × (actions ≤ 16) × (graphWords ≤ length (now graph))
+    requires { ⌜ (n ≤ length (now premises)) × (n ≤ length (now keys)) × (16 ≤ length (now kept)) × (forbidden ≤ 8) × (actions ≤ 16) × (graphWords ≤ length (now graph))
         × (nodes ≤ mostNodes) ⌝ }
     ensures { λ r. ⌜ Within nodes r
         × ((p : Program) (ls : List Lemma) (g : Graph)
-        → Judging p ls g (entries (now (premises .entry)) (now (keys .entry)) n) literals forbidden asked kept actions (now (graph .entry)) → nodes ≡ count g
+        → Judging p ls g (entries (now (premises .entry)) (now (keys .entry)) n) literals forbidden asked (now (kept .entry)) actions (now (graph .entry)) → nodes ≡ count g
         → r ≡ foundOf (findings p ls g)) ⌝ }
 {
     let mut k: usize = 0;

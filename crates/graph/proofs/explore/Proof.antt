@@ -59,9 +59,9 @@ returns c =
     let u = t .before in
     let v = u .before .before .before in
     let w = v .before .before .before .before .before in
-    let a = w .args in
+    let a = w .before .args in
     let es = entries (a .premises .now) (a .keys .now) (a .n) in
-    cleared-over (nextOf es (a .kept)) (a .actions) (a .graph .now) _ (v .clear .ensures) (startOf es) (r .node-word .result)
+    cleared-over (nextOf es (a .kept .now)) (a .actions) (a .graph .now) _ (v .clear .ensures) (startOf es) (r .node-word .result)
     (ap answerOf (ap successorOf (sym (u .gather .ensures)) ∙ sym (t .successor-of .ensures) ∙ s .next .given .1) ∙ ap To (sym (r .node-word .ensures)))
     (q .explore-from .result) (q .explore-from .last .1 .1 .1 .1 .0) (q .explore-from .ensures) _ (p .enum-told .given .1) (c .before .before .clear2 .ensures)
 
@@ -77,9 +77,9 @@ returns-2 c =
     let t = s .before in
     let u = t .before .before .before in
     let v = u .before .before .before .before .before in
-    let a = v .args in
+    let a = v .before .args in
     let es = entries (a .premises .now) (a .keys .now) (a .n) in
-    cleared-done (nextOf es (a .kept)) (a .actions) (a .graph .now) _ (u .clear .ensures) (startOf es) (q .node-word .result)
+    cleared-done (nextOf es (a .kept .now)) (a .actions) (a .graph .now) _ (u .clear .ensures) (startOf es) (q .node-word .result)
     (ap answerOf (ap successorOf (sym (t .gather .ensures)) ∙ sym (s .successor-of .ensures) ∙ r .next .given .1) ∙ ap To (sym (q .node-word .ensures)))
     (p .explore-from .result) (p .explore-from .last .1 .1 .1 .1 .0) (p .explore-from .ensures) (omega arith) _ _ (c .enum-told2 .given .1)
 
@@ -91,9 +91,9 @@ returns-3 c =
     let p = c .before .before .before in
     let q = p .before .before .before in
     let r = q .before .before .before .before .before in
-    let a = r .args in
+    let a = r .before .args in
     let es = entries (a .premises .now) (a .keys .now) (a .n) in
-    cleared-none (nextOf es (a .kept)) (a .actions) (a .graph .now) _ (q .clear .ensures) (startOf es) (ap answerOf (ap successorOf (sym (p .gather .ensures)) ∙ sym (c .before .before .successor-of .ensures) ∙ c .enum-told3 .given .1))
+    cleared-none (nextOf es (a .kept .now)) (a .actions) (a .graph .now) _ (q .clear .ensures) (startOf es) (ap answerOf (ap successorOf (sym (p .gather .ensures)) ∙ sym (c .before .before .successor-of .ensures) ∙ c .enum-told3 .given .1))
 
 pub explore-spec : {M : Type 1} → statement M
 explore-spec =

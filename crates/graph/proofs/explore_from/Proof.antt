@@ -22,8 +22,8 @@ begin-requires : tie.Need-begin-requires Inv-loop μ-loop
 begin-requires c κs = search needs
 
 loop-holds : tie.Need-loop-holds Inv-loop μ-loop
-loop-holds c = let a = c .before .before .before .before .before .before .before .before .args in
-    (first-node (nextOf (entries (a .premises .now) (a .keys .now) (a .n)) (a .kept)) (a .actions) (a .start) (a .graph .now) _ (c .before .before .begin .ensures) (omega arith), refl)
+loop-holds c = let a = c .before .before .before .before .before .before .before .before .before .args in
+    (first-node (nextOf (entries (a .premises .now) (a .keys .now) (a .n)) (a .kept .now)) (a .actions) (a .start) (a .graph .now) _ (c .before .before .begin .ensures) (omega arith), refl)
 
 turn-requires : tie.Need-turn-requires Inv-loop μ-loop
 turn-requires c κs = search needs
@@ -46,10 +46,10 @@ returns c =
     let q = p .before .before .before .before in
     let r = q .before .before .before in
     let s = r .before .before .before .before .before .before in
-    let a = s .args in
+    let a = s .before .args in
     let l = q .loop in
     rw (c .enum-told .given .1) at
-    (all-over (nextOf (entries (a .premises .now) (a .keys .now) (a .n)) (a .kept)) (a .actions) (a .start) (a .graph .now) _ (l .graph) (r .begin .ensures) (l .nodes) (l .edges) (l .k) (l .inv .0) (p .turn .result) (p .turn .last .1 .1 .1 .1 .0) (omega arith) (p .turn .ensures) (c .enum-told .given .1))
+    (all-over (nextOf (entries (a .premises .now) (a .keys .now) (a .n)) (a .kept .now)) (a .actions) (a .start) (a .graph .now) _ (l .graph) (r .begin .ensures) (l .nodes) (l .edges) (l .k) (l .inv .0) (p .turn .result) (p .turn .last .1 .1 .1 .1 .0) (omega arith) (p .turn .ensures) (c .enum-told .given .1))
 
 add-k : tie.Need-add-k Inv-loop μ-loop
 add-k c = search needs
@@ -63,10 +63,10 @@ loop-again c =
     let q = p .before .before .before .before in
     let s = q .before .before .before in
     let t = s .before .before .before .before .before .before in
-    let a = t .args in
+    let a = t .before .args in
     let l = q .loop in
     let same : length (p .turn .last .1 .1 .1 .1 .1 .0) ≡ length (l .hints) = p .turn .kept .1 .1 .1 .1 .1 .0 in
-    (taken-on (nextOf (entries (a .premises .now) (a .keys .now) (a .n)) (a .kept)) (a .actions) (a .start) (a .graph .now) _ (l .graph) (s .begin .ensures) (l .nodes) (l .edges) (l .k) (l .inv .0) (p .turn .result) _ (omega arith) (p .turn .ensures) _ _ (c .before .r .given .1) (p .turn .kept .1 .1 .1 .1 .0), same ∙ l .inv .1)
+    (taken-on (nextOf (entries (a .premises .now) (a .keys .now) (a .n)) (a .kept .now)) (a .actions) (a .start) (a .graph .now) _ (l .graph) (s .begin .ensures) (l .nodes) (l .edges) (l .k) (l .inv .0) (p .turn .result) _ (omega arith) (p .turn .ensures) _ _ (c .before .r .given .1) (p .turn .kept .1 .1 .1 .1 .0), same ∙ l .inv .1)
 
 same-length-3 : tie.Need-same-length-3 Inv-loop μ-loop
 same-length-3 c = search needs
@@ -78,9 +78,9 @@ returns-2 : tie.Need-returns-2 Inv-loop μ-loop
 returns-2 c =
     let p = c .before .before .before .before in
     let q = p .before .before .before .before .before .before in
-    let a = q .args in
+    let a = q .before .args in
     let l = c .before .loop in
-    all-done (nextOf (entries (a .premises .now) (a .keys .now) (a .n)) (a .kept)) (a .actions) (a .start) (a .graph .now) _ (l .graph) (p .begin .ensures) (l .nodes) (l .edges) (l .k) (l .inv .0) (omega arith)
+    all-done (nextOf (entries (a .premises .now) (a .keys .now) (a .n)) (a .kept .now)) (a .actions) (a .start) (a .graph .now) _ (l .graph) (p .begin .ensures) (l .nodes) (l .edges) (l .k) (l .inv .0) (omega arith)
     (omega (arith, most (l .nodes) (a .actions) (omega arith) (omega arith)))
 
 pub explore-from-spec : {M : Type 1} → statement M

@@ -1,24 +1,24 @@
 use borrow.Author.Needs.{needs}
 use Rattle.lemmas.specs.Sources.{theProgram}
-use Rattle.judge.proofs.Judging.{nodes-few, judging, image-few}
+use Rattle.judge.proofs.Judging.{nodes-few, judging, image-few, masks-long}
 use Rattle.judge.proofs.first_finding.Statement.{statement}
 use Rattle.judge.proofs.first_finding.Tie as tie
 
 asked-ends-requires : tie.Need-asked-ends-requires
 asked-ends-requires c κs =
-    let s = c .before .before .before .before in
+    let s = c .before .before .before .before .before in
     image-few (s .args .words .now) (s .pre .0) (s .pre .5 .0) (s .pre .5 .1) (s .pre .5 .3) .1
 
 first-finding-requires : tie.Need-first-finding-requires
 first-finding-requires c κs =
-    let s = c .before .before .before .before .before .before in
+    let s = c .before .before .before .before .before .before .before in
     let f = image-few (s .args .words .now) (s .pre .0) (s .pre .5 .0) (s .pre .5 .1) (s .pre .5 .3) in
-    (s .pre .2, s .pre .3, f .0, f .1, s .pre .4, nodes-few (s .args .words .now) (s .pre .0) (s .pre .5 .0) (s .pre .5 .1) (s .pre .5 .3))
+    (s .pre .2, s .pre .3, masks-long (theProgram (s .args .words .now)) (s .pre .1), f .0, f .1, s .pre .4, nodes-few (s .args .words .now) (s .pre .0) (s .pre .5 .0) (s .pre .5 .1) (s .pre .5 .3))
 
 returns : tie.Need-returns
 returns c =
     let a = c .before .before in
-    let s = a .before .before .before .before .before in
+    let s = a .before .before .before .before .before .before in
     let p = theProgram (s .args .words .now) in
     let asked = a .asked-ends .ensures p (s .pre .0 .same) in
     (c .first-finding .ensures .0, λ ls g edges r. c .first-finding .ensures .1 p ls g (judging (s .args .words .now) (s .pre .0) ls g r asked (s .pre .1)) (r .nodes-are))

@@ -38,13 +38,16 @@ slice-aggregate-judge-graph : tie.Need-slice-aggregate-judge-graph
 slice-aggregate-judge-graph c = search needs
 
 slice-aggregate-judge-graph-2 : tie.Need-slice-aggregate-judge-graph-2
-slice-aggregate-judge-graph-2 c = search (needs, c .before .before .before .before .before .before .before .before .before .before .survey .ok .1 .1 .1 .1 .0 .1 .1 .1 .0 .1)
+slice-aggregate-judge-graph-2 c = search needs
+
+slice-aggregate-judge-graph-3 : tie.Need-slice-aggregate-judge-graph-3
+slice-aggregate-judge-graph-3 c = search (needs, c .before .before .before .before .before .before .before .before .before .before .before .survey .ok .1 .1 .1 .1 .0 .1 .1 .1 .0 .1)
 
 judge-graph-requires : tie.Need-judge-graph-requires
 judge-graph-requires c κs =
-    let q = c .before .before .before .before .before .before .before .before .before .before .before .before in
+    let q = c .before .before .before .before .before .before .before .before .before .before .before .before .before in
     let f = q .before .before .before .before .before .before .before .before in
-    let w = complete (f .args .words .now) (f .args .lemmas .now) (f .args .graph .now) (f .args .path .now) (q .before .before .before .if1 .left) (q .before .before .if2 .left) (q .survey .result) (q .survey .ensures) (c .before .before .before .before .before .before .before .before .enum-told .given .1) in (
+    let w = complete (f .args .words .now) (f .args .lemmas .now) (f .args .graph .now) (f .args .path .now) (q .before .before .before .if1 .left) (q .before .before .if2 .left) (q .survey .result) (q .survey .ensures) (c .before .before .before .before .before .before .before .before .before .enum-told .given .1) in (
       w .held,
       w .masks,
       w .tabled .few .0,
@@ -63,10 +66,10 @@ same-length-3 c = search needs
 returns-4 : tie.Need-returns-4
 returns-4 c =
     let j = c .before .before in
-    let q = c .before .before .before .before .before .before .before .before .before .before .before .before .before .before .before in
+    let q = c .before .before .before .before .before .before .before .before .before .before .before .before .before .before .before .before in
     let f = q .before .before .before .before .before .before .before .before in
-    let w = complete (f .args .words .now) (f .args .lemmas .now) (f .args .graph .now) (f .args .path .now) (q .before .before .before .if1 .left) (q .before .before .if2 .left) (q .survey .result) (q .survey .ensures) (c .before .before .before .before .before .before .before .before .before .before .before .enum-told .given .1) in
-    judged (f .args .words .now) (f .args .lemmas .now) (f .args .graph .now) (f .args .path .now) (q .before .before .before .if1 .left) (q .before .before .if2 .left) (q .survey .result) (q .survey .ensures) (c .before .before .before .before .before .before .before .before .before .before .before .enum-told .given .1)
+    let w = complete (f .args .words .now) (f .args .lemmas .now) (f .args .graph .now) (f .args .path .now) (q .before .before .before .if1 .left) (q .before .before .if2 .left) (q .survey .result) (q .survey .ensures) (c .before .before .before .before .before .before .before .before .before .before .before .before .enum-told .given .1) in
+    judged (f .args .words .now) (f .args .lemmas .now) (f .args .graph .now) (f .args .path .now) (q .before .before .before .if1 .left) (q .before .before .if2 .left) (q .survey .result) (q .survey .ensures) (c .before .before .before .before .before .before .before .before .before .before .before .before .enum-told .given .1)
     (j .judge-graph .ensures (theLemmas (theProgram (f .args .words .now)) (f .args .lemmas .now)) (w .made) (w .ready))
 
 pub judge-spec : {M : Type 1} → statement M
@@ -82,6 +85,7 @@ judge-spec =
     enum-told
     slice-aggregate-judge-graph
     slice-aggregate-judge-graph-2
+    slice-aggregate-judge-graph-3
     judge-graph-requires
     same-length-2
     same-length-3

@@ -1,6 +1,7 @@
 use Rattle.lemmas.specs.Sources.{theProgram}
 use Rattle.ask.proofs.Asking.{Program-read, program-read}
 use Rattle.judge.proofs.Surveying.{refuses, no-program, no-lemmas, begun, sum-off, actions-few, too-many, complete}
+use Rattle.judge.proofs.Judging.{masks-long}
 use borrow.Author.Needs.{needs}
 use Rattle.judge.proofs.survey.Statement.{statement}
 use Rattle.judge.proofs.survey.Tie as tie
@@ -74,11 +75,15 @@ slice-aggregate-explore c = search needs
 slice-aggregate-explore-2 : tie.Need-slice-aggregate-explore-2
 slice-aggregate-explore-2 c = search needs
 
+slice-aggregate-explore-3 : tie.Need-slice-aggregate-explore-3
+slice-aggregate-explore-3 c = search needs
+
 explore-requires : tie.Need-explore-requires
 explore-requires c κs =
-    let q = c .before .before .before .before .before .before .before in
+    let m = c .before .before .before .before in
+    let q = m .before .before .before .before in
     let f = q .before .before .before .before .before .before .before .before .before .before .before .before in
-    (q .tabulate .ensures .few .0, q .tabulate .ensures .few .1, f .pre, actions-few (f .args .words .now) (f .args .lemmas .now) (f .args .graph .now) (q .before .before .before .before .before .before .before .before .load .ensures) (known (q .before .before .before .before .before)) (q .before .before .before .before .list .ensures) (q .before .before .enum-told2 .given .1) (q .tabulate .ensures) (c .before .before .before .before .before .before .if1 .left))
+    (q .tabulate .ensures .few .0, q .tabulate .ensures .few .1, masks-long (theProgram (f .args .words .now)) (m .masks .ensures (theProgram (f .args .words .now)) (known (q .before .before .before .before .before) .held .same)), f .pre, actions-few (f .args .words .now) (f .args .lemmas .now) (f .args .graph .now) (q .before .before .before .before .before .before .before .before .load .ensures) (known (q .before .before .before .before .before)) (q .before .before .before .before .list .ensures) (q .before .before .enum-told2 .given .1) (q .tabulate .ensures) (m .before .before .before .if1 .left))
 
 enum-told-3 : tie.Need-enum-told-3
 enum-told-3 c = search needs
@@ -95,7 +100,7 @@ same-length c = search needs
 returns-4 : tie.Need-returns-4
 returns-4 c =
     let x = c .before .before .before .before .before in
-    let m = x .before .before .before .before in
+    let m = x .before .before .before .before .before in
     let q = m .before .before .before .before in
     let f = q .before .before .before .before .before .before .before .before .before .before .before .before in
     refuses (f .args .words .now) (f .args .lemmas .now) (f .args .graph .now) (c .stopped4 .result) (c .stopped4 .ensures)
@@ -107,7 +112,7 @@ same-length-2 c = search needs
 returns-5 : tie.Need-returns-5
 returns-5 c =
     let x = c .before .before .before .before .before in
-    let m = x .before .before .before .before in
+    let m = x .before .before .before .before .before in
     let q = m .before .before .before .before in
     let f = q .before .before .before .before .before .before .before .before .before .before .before .before in
     complete (f .args .words .now) (f .args .lemmas .now) (f .args .graph .now) (q .before .before .before .before .before .before .before .before .load .ensures) (known (q .before .before .before .before .before)) (q .before .before .before .before .list .ensures) (q .before .before .enum-told2 .given .1) (q .tabulate .ensures) (m .before .before .before .if1 .left) (m .masks .ensures (theProgram (f .args .words .now)) (known (q .before .before .before .before .before) .held .same)) (x .explore .ensures .0) (x .explore .ensures .1) (c .before .explored .given .1)
@@ -132,6 +137,7 @@ survey-spec =
     masks-requires
     slice-aggregate-explore
     slice-aggregate-explore-2
+    slice-aggregate-explore-3
     explore-requires
     enum-told-3
     stopped-requires-4

@@ -40,7 +40,7 @@ loop-again : tie.Need-loop-again Inv-loop μ-loop
 loop-again c =
     let f = c .before .before in
     let l = f .before .before in
-    let nodes = l .before .before .before .before .args .nodes in (
+    let nodes = l .before .before .before .before .before .args .nodes in (
       omega arith,
       λ p ls g J e. nothing-yet p ls g nodes (l .loop .k) (l .loop .inv .1 p ls g J e) (omega arith) (f .found-at .result) (f .found-at .ensures .1 p ls g J (omega arith)) (c .enum-told .given .1),
     )
@@ -49,7 +49,7 @@ returns : tie.Need-returns Inv-loop μ-loop
 returns c =
     let f = c .before in
     let l = f .before .before in
-    let nodes = l .before .before .before .before .args .nodes in (
+    let nodes = l .before .before .before .before .before .args .nodes in (
       within-more (f .found-at .result) (l .loop .k + 1) nodes (omega arith) (f .found-at .ensures .0),
       λ p ls g J e. found-here p ls g nodes (l .loop .k) (l .loop .inv .1 p ls g J e) (omega arith) (f .found-at .result) (f .found-at .ensures .1 p ls g J (omega arith)) (λ z. ⊎-elim (λ q. omega arith) (λ q. omega arith) (rw z at (c .match .keys2))),
     )
@@ -57,7 +57,7 @@ returns c =
 returns-2 : tie.Need-returns-2 Inv-loop μ-loop
 returns-2 c =
     let l = c .before in
-    (tt, λ p ls g J e. found-none p ls g (l .before .before .before .before .args .nodes) (l .loop .k) (l .loop .inv .1 p ls g J e) (omega arith))
+    (tt, λ p ls g J e. found-none p ls g (l .before .before .before .before .before .args .nodes) (l .loop .k) (l .loop .inv .1 p ls g J e) (omega arith))
 
 pub first-finding-spec : {M : Type 1} → statement M
 first-finding-spec =

@@ -1,23 +1,20 @@
 -- Nothing is found of the actions before j. The measure is what is left of the actions.
-use mathlib.Core.Path.{_≡_, refl, sym, ap, _∙_}
-use mathlib.Core.Bool.{Bool}
+use mathlib.Core.Path.{_≡_, refl, sym, _∙_}
 use mathlib.Core.Logic.{⊎-elim}
-use Prim.Native.Nat.{ℕ, _-_, _≤_}
+use Prim.Native.Nat.{_-_, _≤_}
 use native.Mathlib.Nat.{sub-zero}
 use native.Mathlib.Omega.{arith}
 use borrow.Author.Needs.{needs}
-use lib.ListN.{getD}
-use Rattle.gather.specs.Gathering.{withKept, successorOf}
-use Rattle.verdict.specs.Working.{given, firstUnshown}
+use Rattle.verdict.specs.Working.{firstUnshown}
 use Rattle.verdict.proofs.Ends.{off-skip, off-kept, off-here, off-end}
 use Rattle.verdict.proofs.first_unshown.Statement.{statement}
 use Rattle.verdict.proofs.first_unshown.Tie as tie
 
 abbrev Inv-loop : tie.InvT-loop
-Inv-loop actions set k asked kept shown j₀ j = (j ≤ actions) × (firstUnshown asked kept shown set k j (actions - j) ≡ firstUnshown asked kept shown set k 0 actions)
+Inv-loop actions k asked shown j₀ j = (j ≤ actions) × (firstUnshown asked shown k j (actions - j) ≡ firstUnshown asked shown k 0 actions)
 
 abbrev μ-loop : tie.MeasureT-loop
-μ-loop actions set k asked kept shown j₀ j = actions - j
+μ-loop actions k asked shown j₀ j = actions - j
 
 loop-holds : tie.Need-loop-holds Inv-loop μ-loop
 loop-holds c = (omega arith, rw (sub-zero (c .args .actions)) refl)
@@ -27,15 +24,6 @@ mul-seen c = search needs
 
 array-read-seen : tie.Need-array-read-seen Inv-loop μ-loop
 array-read-seen c = search needs
-
-mul-with-kept : tie.Need-mul-with-kept Inv-loop μ-loop
-mul-with-kept c = search needs
-
-array-read-with-kept : tie.Need-array-read-with-kept Inv-loop μ-loop
-array-read-with-kept c = search needs
-
-with-kept-requires : tie.Need-with-kept-requires Inv-loop μ-loop
-with-kept-requires c κs = search needs
 
 has-successor-requires : tie.Need-has-successor-requires Inv-loop μ-loop
 has-successor-requires c κs = search needs
@@ -52,20 +40,13 @@ first-missing-requires c κs = search needs
 cast-v : tie.Need-cast-v Inv-loop μ-loop
 cast-v c = search needs
 
--- formula (3)'s answer for action j, by what was worked out
-successor-is : (c : tie.After-has-successor Inv-loop μ-loop) {b : Bool} → c .has-successor .result ≡ b
-    → let l = c .before .before .before in
-    let a = l .before .args in
-    given (successorOf (withKept (getD (a .t2) (l .loop .j) 0) (a .set) (getD (a .t3) (l .loop .j) 0))) ≡ b
-successor-is c e = ap (λ (w : ℕ). given (successorOf w)) (sym (c .before .with-kept .ensures)) ∙ sym (c .has-successor .ensures) ∙ e
-
 returns : tie.Need-returns Inv-loop μ-loop
 returns c =
     let m = c .before .first-missing in
     let r = c .before .before in
-    let l = r .before .before .before .before in
+    let l = r .before .before .before in
     let a = l .before .args in
-    off-here (a .t1) (a .t2) (a .t3) (a .set) (a .k) (a .actions) (l .loop .j) (l .loop .inv .1) (omega arith) (successor-is (r .before) (r .if1 .taken)) (m .result) (m .ensures) (c .if2 .taken)
+    off-here (a .t1) (a .t2) (a .k) (a .actions) (l .loop .j) (l .loop .inv .1) (omega arith) (sym (r .before .has-successor .ensures) ∙ r .if1 .taken) (m .result) (m .ensures) (c .if2 .taken)
 
 add-j : tie.Need-add-j Inv-loop μ-loop
 add-j c = search needs
@@ -75,18 +56,19 @@ loop-less c = search needs
 
 loop-again : tie.Need-loop-again Inv-loop μ-loop
 loop-again c =
-    let l = c .before .before .before .before in
-    let a = l .before .args in (
+    let l = c .before .before .before in
+    let a = l .before .args in
+    let is = c .before .has-successor .ensures in (
       omega arith,
-      ⊎-elim (λ w. off-kept (a .t1) (a .t2) (a .t3) (a .set) (a .k) (a .actions) (l .loop .j) (l .loop .inv .1) (omega arith) (successor-is (c .before) (w .0 .taken)) (w .1 .result) (w .1 .ensures) (w .2 .left))
-          (λ w. off-skip (a .t1) (a .t2) (a .t3) (a .set) (a .k) (a .actions) (l .loop .j) (l .loop .inv .1) (omega arith) (successor-is (c .before) (w .left))) (c .if1 .came),
+      ⊎-elim (λ w. off-kept (a .t1) (a .t2) (a .k) (a .actions) (l .loop .j) (l .loop .inv .1) (omega arith) (sym is ∙ w .0 .taken) (w .1 .result) (w .1 .ensures) (w .2 .left))
+          (λ w. off-skip (a .t1) (a .t2) (a .k) (a .actions) (l .loop .j) (l .loop .inv .1) (omega arith) (sym is ∙ w .left)) (c .if1 .came),
     )
 
 returns-2 : tie.Need-returns-2 Inv-loop μ-loop
 returns-2 c =
     let l = c .before in
     let a = l .before .args in
-    off-end (a .t1) (a .t2) (a .t3) (a .set) (a .k) (a .actions) (l .loop .j) (l .loop .inv .1) (omega arith)
+    off-end (a .t1) (a .t2) (a .k) (a .actions) (l .loop .j) (l .loop .inv .1) (omega arith)
 
 pub first-unshown-spec : {M : Type 1} → statement M
 first-unshown-spec =
@@ -97,9 +79,6 @@ first-unshown-spec =
     loop-holds
     mul-seen
     array-read-seen
-    mul-with-kept
-    array-read-with-kept
-    with-kept-requires
     has-successor-requires
     mul-first-missing
     array-read-first-missing

@@ -16,7 +16,7 @@ first-free-requires c κs = search needs
 returns : tie.Need-returns
 returns c =
     let w = c .before .before .word-at in
-    let k = c .before .before .before .before .before .before .args .k in
+    let k = c .before .before .before .before .before .before .before .args .k in
     (omega arith, λ p ls g J h. node-forbids J k h (w .result) (c .before .first-free .result) (w .ensures) (c .before .first-free .ensures) (c .if1 .taken))
 
 gather-all-requires : tie.Need-gather-all-requires
@@ -29,9 +29,9 @@ returns-2 : tie.Need-returns-2
 returns-2 c =
     let q = c .before .before .before in
     let w = q .before .word-at in
-    let a = q .before .before .before .before .before .args in
+    let a = q .before .before .before .before .before .before .args in
     let shown = c .before .gather-all in (
-      subst (Within (a .k + 1)) (sym (c .first-unshown .ensures)) (off-within (a .asked) (a .kept) (shown .result) _ (a .k) 0 (a .actions)),
+      subst (Within (a .k + 1)) (sym (c .first-unshown .ensures)) (off-within (a .asked) (shown .result) (a .k) 0 (a .actions)),
       λ p ls g J h. node-off J (a .k) h (w .result) (q .first-free .result) (w .ensures) (q .first-free .ensures) (c .before .before .if1 .left) (shown .result) (shown .ensures) (c .first-unshown .result) (c .first-unshown .ensures),
     )
 
