@@ -61,8 +61,8 @@ fn turn(
     actions: usize,
     k: usize,
 ) -> Explored
-    requires { ⌜ (n ≤ length (now premises)) × (n ≤ length (now keys)) × (16 ≤ length (now kept)) × (graphWords ≤ length (now graph)) × (hintCount ≤ length (now hints))
-        × (nodes ≤ mostNodes) × (actions ≤ 16) × (k < nodes) × (edges ≤ k * actions) ⌝ }
+    requires { ⌜ (n ≤ length (now premises)) × (n ≤ length (now keys)) × (16 ≤ length (now kept)) × (graphWords ≤ length (now graph))
+        × (hintCount ≤ length (now hints)) × (nodes ≤ mostNodes) × (actions ≤ 16) × (k < nodes) × (edges ≤ k * actions) ⌝ }
     ensures { λ r. ⌜ Turned (λ h. turns (nextOf (entries (now (premises .entry)) (now (keys .entry)) n) (now (kept .entry))) mostNodes h k actions)
         (now (graph .entry)) actions nodes edges (k * actions) r (now (graph .exit)) (k * actions + actions) ⌝ }
 {
@@ -94,10 +94,10 @@ fn explore_from(
     actions: usize,
     start: u32,
 ) -> Explored
-    requires { ⌜ (n ≤ length (now premises)) × (n ≤ length (now keys)) × (16 ≤ length (now kept)) × (graphWords ≤ length (now graph)) × (hintCount ≤ length (now hints))
-        × (actions ≤ 16) ⌝ }
-    ensures { λ r. ⌜ Filled actions (explored (nextOf (entries (now (premises .entry)) (now (keys .entry)) n) (now (kept .entry))) actions mostNodes (To start)) r
-        (now (graph .entry)) (now (graph .exit)) ⌝ }
+    requires { ⌜ (n ≤ length (now premises)) × (n ≤ length (now keys)) × (16 ≤ length (now kept)) × (graphWords ≤ length (now graph))
+        × (hintCount ≤ length (now hints)) × (actions ≤ 16) ⌝ }
+    ensures { λ r. ⌜ Filled actions (explored (nextOf (entries (now (premises .entry)) (now (keys .entry)) n) (now (kept .entry)))
+        actions mostNodes (To start)) r (now (graph .entry)) (now (graph .exit)) ⌝ }
 {
     records::begin(&mut *graph, start);
     let mut nodes: usize = 1;
@@ -137,7 +137,8 @@ pub fn explore(
 ) -> Explored
     requires { ⌜ (n ≤ length (now premises)) × (n ≤ length (now keys)) × (16 ≤ length (now kept)) × (graphWords ≤ length (now graph)) × (actions ≤ 16) ⌝ }
     ensures { λ r. ⌜ (r ≡ exploredOf (graphOf (entries (now (premises .entry)) (now (keys .entry)) n) (now (kept .entry)) actions))
-        × (now (graph .exit) ≡ graphList actions (graphOf (entries (now (premises .entry)) (now (keys .entry)) n) (now (kept .entry)) actions) (now (graph .entry))) ⌝ }
+        × (now (graph .exit)
+        ≡ graphList actions (graphOf (entries (now (premises .entry)) (now (keys .entry)) n) (now (kept .entry)) actions) (now (graph .entry))) ⌝ }
 {
     records::clear(&mut *graph, records::ROOM);
     let next = gather::successor_of(gather::gather(

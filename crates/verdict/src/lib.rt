@@ -191,12 +191,12 @@ fn found_at(
     graph: &[u32],
     k: usize,
 ) -> Found
-    requires { ⌜ (n ≤ length (now premises)) × (n ≤ length (now keys)) × (16 ≤ length (now kept)) × (forbidden ≤ 8) × (actions ≤ 16) × (graphWords ≤ length (now graph))
-        × (k < mostNodes) ⌝ }
+    requires { ⌜ (n ≤ length (now premises)) × (n ≤ length (now keys)) × (16 ≤ length (now kept)) × (forbidden ≤ 8) × (actions ≤ 16)
+        × (graphWords ≤ length (now graph)) × (k < mostNodes) ⌝ }
     ensures { λ r. ⌜ Within (k + 1) r
         × ((p : Program) (ls : List Lemma) (g : Graph)
-        → Judging p ls g (entries (now (premises .entry)) (now (keys .entry)) n) literals forbidden asked (now (kept .entry)) actions (now (graph .entry)) → k < count g
-        → r ≡ foundOf (findingsAt p ls g k)) ⌝ }
+        → Judging p ls g (entries (now (premises .entry)) (now (keys .entry)) n) literals forbidden asked (now (kept .entry)) actions
+        (now (graph .entry)) → k < count g → r ≡ foundOf (findingsAt p ls g k)) ⌝ }
 {
     let set = records::word_at(graph, actions, k) % 268435456;
     let b = first_free(literals, forbidden, set);
@@ -221,12 +221,12 @@ pub fn first_finding(
     graph: &[u32],
     nodes: usize,
 ) -> Found
-    requires { ⌜ (n ≤ length (now premises)) × (n ≤ length (now keys)) × (16 ≤ length (now kept)) × (forbidden ≤ 8) × (actions ≤ 16) × (graphWords ≤ length (now graph))
-        × (nodes ≤ mostNodes) ⌝ }
+    requires { ⌜ (n ≤ length (now premises)) × (n ≤ length (now keys)) × (16 ≤ length (now kept)) × (forbidden ≤ 8) × (actions ≤ 16)
+        × (graphWords ≤ length (now graph)) × (nodes ≤ mostNodes) ⌝ }
     ensures { λ r. ⌜ Within nodes r
         × ((p : Program) (ls : List Lemma) (g : Graph)
-        → Judging p ls g (entries (now (premises .entry)) (now (keys .entry)) n) literals forbidden asked (now (kept .entry)) actions (now (graph .entry)) → nodes ≡ count g
-        → r ≡ foundOf (findings p ls g)) ⌝ }
+        → Judging p ls g (entries (now (premises .entry)) (now (keys .entry)) n) literals forbidden asked (now (kept .entry)) actions
+        (now (graph .entry)) → nodes ≡ count g → r ≡ foundOf (findings p ls g)) ⌝ }
 {
     let mut k: usize = 0;
     while k < nodes {
