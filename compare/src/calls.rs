@@ -18,6 +18,8 @@ pub struct Compare {
     pub counts: Counts,
     /// Calls of the library.
     pub calls: u64,
+    /// The last input of `all` is safe by what is kept.
+    pub safe_by_kept: bool,
     pattern: Vec<u32>,
     /// Lent lists with their margins: library, independent.
     graphs: [Vec<u32>; 2],
@@ -47,6 +49,15 @@ fn differ(input: &Input, call: &str, library: &dyn std::fmt::Debug, other: &dyn 
     )
 }
 
+/// Something that a call returned and that cannot be.
+pub fn falsehood(input: &Input, judged: &BnvJudge, fault: &str) -> Difference {
+    format!(
+        "FALSE: {fault}\n  {judged:?}\n{}{}",
+        hexadecimal("program", &input.program),
+        hexadecimal("lemmas", &input.lemmas)
+    )
+}
+
 /// The first place where two lists differ.
 fn first<T: PartialEq + Copy>(a: &[T], b: &[T]) -> Option<usize> {
     if a == b { None } else { a.iter().zip(b).position(|(x, y)| x != y).or(Some(a.len().min(b.len()))) }
@@ -58,6 +69,7 @@ impl Compare {
         Compare {
             counts: Counts::default(),
             calls: 0,
+            safe_by_kept: false,
             pattern: (0..SHOW_WORDS + 64 + 2 * MARGIN + 1024).map(|_| dice.next() as u32).collect(),
             graphs: Default::default(),
             paths: Default::default(),
@@ -114,6 +126,12 @@ impl Compare {
 
     /// `graph` and `path` are the lengths lent, `offset` the place in the pattern that fills them.
     pub fn judge(&mut self, input: &Input, graph: usize, path: usize, offset: usize) -> Result<BnvJudge, Difference> {
+        let judged = self.judge_uncounted(input, graph, path, offset)?;
+        self.note_judge(&judged, path);
+        Ok(judged)
+    }
+
+    pub fn judge_uncounted(&mut self, input: &Input, graph: usize, path: usize, offset: usize) -> Result<BnvJudge, Difference> {
         self.lend(offset, graph, path, 0);
         let (g, p) = (MARGIN..MARGIN + graph, MARGIN..MARGIN + path);
         let ours = library::judge(
@@ -129,7 +147,6 @@ impl Compare {
             return Err(differ(input, &name(), &ours, &theirs));
         }
         self.lent_alike(input, &name, &ours)?;
-        self.note_judge(&theirs, path);
         Ok(theirs)
     }
 
@@ -276,6 +293,7 @@ impl Compare {
         }
         let (graph, path) = (length(dice, GRAPH_WORDS, LONGEST), length(dice, PATH_WORDS, 2000));
         let judged = self.judge(input, graph, path, dice.below(1024))?;
+        let looked = self.look(input, &judged)?;
         if judged.verdict == BNV_SAFE && input.program.len() > 1 && input.program[input.program.len() - 2] >> 28 == 8 {
             self.counts.note("safe, combinations named");
         }
@@ -287,6 +305,7 @@ impl Compare {
         if dice.percent(30) {
             self.show(input, dice)?;
         }
+        self.safe_by_kept = looked.map_or(Ok(false), |looked| self.touch_all(input, &judged, &looked))?;
         // The words lent for reading are as they were.
         if mine.program != input.program || mine.lemmas != input.lemmas {
             return Err(differ(&mine, "a list lent for reading", &input.program, &input.lemmas));

@@ -24,6 +24,10 @@ pub const DUE: &[&str] = &[
     "show without END", "show of END and more END", "show off a word's alignment", "show of 65,536 bytes",
     "all states walked", "all states walked, safe", "all states walked, safe, 2 nodes or more",
     "accepted lemma, all states", "reachable states, safe",
+    "kept true, no lemma", "kept false, no lemma", "kept, predicate without terms", "kept, action sets nothing",
+    "kept against shown, no successor", "lost, variable set to itself", "lost, a part of its variables set",
+    "another graph by what is kept", "another verdict by what is kept", "safe by what is kept",
+    "all states walked, safe by what is kept", "refusal 7 by what is kept",
 ];
 
 impl Counts {

@@ -51,7 +51,7 @@ fn action(dice: &Dice, vars: &[(i32, i32)], pred: &[RowText]) -> ActionText {
     let d = dice.between(1, 3);
     let mut guards = Vec::new();
     let mut sets: Vec<(u32, RowText)> = Vec::new();
-    match dice.below(12) {
+    match dice.below(13) {
         0..=2 => {
             if guarded {
                 guards.push(at_most(x, high - d));
@@ -85,6 +85,7 @@ fn action(dice: &Dice, vars: &[(i32, i32)], pred: &[RowText]) -> ActionText {
                 guards.extend([at_least(u, low + 1), at_most(u, high - 1)]);
             }
         }
+        11 => sets.push(itself(x)),
         _ => {}
     }
     for _ in 0..dice.pick(&[0, 0, 0, 1, 1, 2]) {
@@ -123,7 +124,8 @@ fn boxes(dice: &Dice, few: bool) -> Text {
         states *= high - low + 1;
         vars.push((low, high));
     }
-    let pred: Vec<RowText> = (0..dice.pick(&[0, 1, 2, 2, 3, 3, 4, 4, 5, 6, 7, 9, 14])).map(|_| near(dice, &vars)).collect();
+    let predicate = |_| if dice.percent(3) { row(dice.between(-1, 0), &[]) } else { near(dice, &vars) };
+    let pred: Vec<RowText> = (0..dice.pick(&[0, 1, 2, 2, 3, 3, 4, 4, 5, 6, 7, 9, 14])).map(predicate).collect();
     let mut init = Vec::new();
     for (v, (low, high)) in vars.iter().enumerate() {
         let start = dice.pick(&[*low, *low, *high, dice.between(*low, *high)]);
@@ -207,20 +209,25 @@ fn odometer(dice: &Dice) -> Text {
     t
 }
 
-/// Sources that cannot happen, so that every lemma is accepted: graphs of any shape.
+/// Sources that cannot happen, so that every lemma is accepted: counters, subsets by lemmas and by what is kept, and graphs of any shape.
 fn forced(dice: &Dice) -> (Text, Vec<Vec<u32>>) {
-    match dice.below(10) {
-        0 | 1 => {
-            let (t, l) = counter(dice.pick(&[1, 3, 5, 6, 7, 8, 9, 9, 9, 10]), &[]);
-            return (t, split_lemmas(&l));
-        }
+    let (t, lemmas) = match dice.below(10) {
+        0 | 1 => counter(dice.pick(&[1, 3, 5, 6, 7, 8, 9, 9, 9, 10]), &[]),
         2 => {
             let bits = dice.pick(&[3, 5, 6, 7, 8, 9, 9, 9, 10]);
-            let (t, l) = subsets_text(bits, bits + dice.pick(&[0, 0, 1, 16 - bits]));
-            return (t, split_lemmas(&l));
+            subsets_text(bits, bits + dice.pick(&[0, 0, 1, 16 - bits]))
         }
-        _ => {}
-    }
+        3 => {
+            let bits = dice.pick(&[3, 6, 7, 8, 9, 9, 10, 10, 12, 14]);
+            kept_subsets(bits, bits + dice.pick(&[0, 1, 16 - bits]))
+        }
+        _ => return forced_at_will(dice),
+    };
+    (t, split_lemmas(&lemmas))
+}
+
+/// Predicates, actions and lemmas at will.
+fn forced_at_will(dice: &Dice) -> (Text, Vec<Vec<u32>>) {
     let vars: Vec<(i32, i32)> = (0..dice.between(1, 8)).map(|_| (0, dice.pick(&[0, 1, 7]))).collect();
     let predicates = dice.between(1, 14) as usize;
     let pred = (0..predicates).map(|_| near(dice, &vars)).collect();
@@ -228,13 +235,22 @@ fn forced(dice: &Dice) -> (Text, Vec<Vec<u32>>) {
     if dice.percent(80) {
         t.init.push(never());
     }
+    // How much of the predicates the actions touch.
+    let density = dice.pick(&[5, 15, 40, 100]);
     for _ in 0..dice.between(1, 16) {
         let mut guards: Vec<RowText> = (0..dice.pick(&[0, 0, 1, 3])).map(|_| near(dice, &vars)).collect();
         guards.push(never());
-        let sets: Vec<(u32, RowText)> =
-            (0..vars.len() as u32).filter(|_| dice.percent(15)).map(|v| (v, row(0, &[]))).collect();
+        let set = |v: u32| if dice.percent(20) { itself(v) } else { (v, row(0, &[])) };
+        let sets: Vec<(u32, RowText)> = (0..vars.len() as u32).filter(|_| dice.percent(density)).map(set).collect();
         t.actions.push(act(&guards, &sets));
     }
+    let lemmas = lemmas_at_will(dice, &t);
+    (t, lemmas)
+}
+
+/// Most ends are shown.
+fn lemmas_at_will(dice: &Dice, t: &Text) -> Vec<Vec<u32>> {
+    let predicates = t.pred.len();
     let mut lemmas = Vec::new();
     if !t.init.is_empty() {
         for p in 0..predicates as u32 {
@@ -258,7 +274,7 @@ fn forced(dice: &Dice) -> (Text, Vec<Vec<u32>>) {
             lemmas.push(t.forced(a as u32, goal, index, f, t_));
         }
     }
-    (t, lemmas)
+    lemmas
 }
 
 /// Up to `most` literals, of different predicates.
@@ -390,31 +406,53 @@ fn forbid(dice: &Dice, t: &mut Text, lemmas: &[u32]) {
     }
 }
 
-/// A logic with lemmas.
-pub fn logic(dice: &Dice) -> Input {
+/// Whether a lemma is about a predicate that its action leaves untouched; then, whether its literal is among its premises.
+fn on_untouched(t: &Text, lemma: &[u32]) -> Option<bool> {
+    let (source, goal, index) = (field(lemma[0], 27, 20), field(lemma[0], 19, 16), field(lemma[0], 7, 0));
+    if source == START || goal != 1 && goal != 2 {
+        return None;
+    }
+    let set = |v: &u32| t.actions[source as usize].sets.iter().any(|(s, _)| s == v);
+    let own = lemma[1] >> (index + if goal == 1 { 0 } else { 14 }) & 1 == 1;
+    (!t.pred[index as usize].1.iter().any(|(v, _)| set(v))).then_some(own)
+}
+
+/// As a designer leaves them out who knows what is kept: the lemmas that a literal stays, or half or all of those about
+/// predicates that are untouched.
+fn spare(dice: &Dice, t: &Text, lemmas: &mut Vec<Vec<u32>>) {
+    let (own, other) = dice.pick(&[(0, 0), (0, 0), (100, 0), (50, 50), (100, 100)]);
+    lemmas.retain(|l| !on_untouched(t, l).is_some_and(|is_own| dice.percent(if is_own { own } else { other })));
+}
+
+/// A logic of some shape, with the lemmas that were found for it.
+fn shaped(dice: &Dice) -> (Text, Vec<Vec<u32>>) {
     let proved = |t: Text| {
-        let lemmas = prove(&t, dice);
+        let mut lemmas = prove(&t, dice);
+        spare(dice, &t, &mut lemmas);
         (t, lemmas)
     };
-    let (mut t, mut lemmas) = match dice.below(100) {
-        0..=43 => proved(boxes(dice, true)),
-        44..=54 => proved(boxes(dice, false)),
+    let boxed = |few: bool| {
+        let (t, mut lemmas) = proved(boxes(dice, few));
+        if dice.percent(15) {
+            // No lemma that an action cannot happen: what is kept may stand against what is shown.
+            lemmas.retain(|l| field(l[0], 19, 16) != 0);
+        }
+        (t, lemmas)
+    };
+    match dice.below(100) {
+        0..=43 => boxed(true),
+        44..=54 => boxed(false),
         55..=65 => proved(rig(dice)),
         66..=75 => proved(odometer(dice)),
         76..=90 => forced(dice),
         _ => general(dice),
-    };
-    // Lemmas left out, more premises, other multipliers, other order.
-    if dice.percent(35) && !lemmas.is_empty() {
-        for _ in 0..dice.between(1, 3) {
-            if !lemmas.is_empty() {
-                let i = dice.below(lemmas.len());
-                lemmas.remove(i);
-            }
-        }
     }
+}
+
+/// A few lemmas by chance, and a few with another multiplier.
+fn add(dice: &Dice, t: &Text, lemmas: &mut Vec<Vec<u32>>) {
     for _ in 0..dice.pick(&[0, 0, 1, 3, 10]) {
-        if let Some(l) = any_lemma(dice, &t) {
+        if let Some(l) = any_lemma(dice, t) {
             let at = dice.below(lemmas.len() + 1);
             lemmas.insert(at, l);
         }
@@ -428,6 +466,21 @@ pub fn logic(dice: &Dice) -> Input {
             lemmas.insert(at, l);
         }
     }
+}
+
+/// A logic with lemmas.
+pub fn logic(dice: &Dice) -> Input {
+    let (mut t, mut lemmas) = shaped(dice);
+    // Lemmas left out, more premises, other multipliers, other order.
+    if dice.percent(35) && !lemmas.is_empty() {
+        for _ in 0..dice.between(1, 3) {
+            if !lemmas.is_empty() {
+                let i = dice.below(lemmas.len());
+                lemmas.remove(i);
+            }
+        }
+    }
+    add(dice, &t, &mut lemmas);
     if dice.percent(20) {
         dice.shuffle(&mut lemmas);
     }
@@ -495,7 +548,7 @@ fn overfull(dice: &Dice, input: &mut Input) {
     let missing = most.saturating_sub(count(program, wanted));
     let any = dice.next() as u32;
     let last = dice.pick(&[filler, make(wanted, any), make(wanted, any & 0xFF), make(wanted, any & 0x1FF), any]);
-    program.splice(at..at, std::iter::repeat_n(filler, missing).chain([last]));
+    program.splice(at..at, std::iter::repeat(filler).take(missing).chain([last]));
 }
 
 pub fn damaged(dice: &Dice, input: &Input) -> Input {

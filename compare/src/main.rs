@@ -5,12 +5,14 @@ mod calls;
 mod counts;
 mod dice;
 mod generate;
+mod keeping;
 mod other;
 mod prover;
 mod states;
 mod sweep;
+mod touch;
 
-use calls::{hexadecimal, Compare, Difference};
+use calls::{falsehood, Compare, Difference};
 use dice::Dice;
 use generate::Input;
 use bulanevior::raw::{BnvJudge, BNV_ACCEPTED, BNV_JUDGE_REFUSED, BNV_SAFE};
@@ -32,13 +34,8 @@ fn walk(compare: &mut Compare, input: &Input, judged: &BnvJudge, most: usize) ->
             accepted.push(lemma);
         }
     }
-    let walked = states::walk(&program, states, &accepted, judged.verdict == BNV_SAFE).map_err(|fault| {
-        format!(
-            "FALSE: {fault}\n  {judged:?}\n{}{}",
-            hexadecimal("program", &input.program),
-            hexadecimal("lemmas", &input.lemmas)
-        )
-    })?;
+    let walked = states::walk(&program, states, &accepted, judged.verdict == BNV_SAFE)
+        .map_err(|fault| falsehood(input, judged, &fault))?;
     let counts = &mut compare.counts;
     counts.note("all states walked");
     counts.add("accepted lemma, all states", walked.lemmas as u64);
@@ -47,6 +44,9 @@ fn walk(compare: &mut Compare, input: &Input, judged: &BnvJudge, most: usize) ->
         counts.add("reachable states, safe", walked.reachable as u64);
         if judged.nodes > 1 {
             counts.note("all states walked, safe, 2 nodes or more");
+        }
+        if compare.safe_by_kept {
+            counts.note("all states walked, safe by what is kept");
         }
     }
     Ok(())

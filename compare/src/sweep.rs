@@ -1,8 +1,12 @@
 //! Full sweeps over a full-sized program and a full-sized lemma list: every cut, every kind in every place,
-//! every single unnamed bit, every field at its ends and one past them; lengths of all lent lists.
+//! every single unnamed bit, every field at its ends and one past them; lengths of all lent lists. And request 1's clause:
+//! small logics, and every set of variables against every other.
 
-use crate::calls::{Compare, Difference};
+use crate::calls::{falsehood, Compare, Difference};
 use crate::generate::Input;
+use crate::keeping::NAMES;
+use crate::touch::Graph;
+use independent::program::Literals;
 use independent::shows::*;
 use independent::words::*;
 
@@ -157,7 +161,13 @@ pub fn sweep(compare: &mut Compare) -> Result<u64, Difference> {
         sweep.show(&Input { program, lemmas })?;
     }
     sweep.show(&Input { program: text.words(), lemmas: all })?;
-    Ok(sweep.inputs)
+    sweep.kept_by_one()?;
+    sweep.kept_by_two()?;
+    sweep.kept_by_variables()?;
+    match NAMES.into_iter().find(|name| sweep.compare.counts.of(name) == 0) {
+        Some(name) => Err(format!("the sweeps never had: {name}")),
+        None => Ok(sweep.inputs),
+    }
 }
 
 impl Sweep<'_> {
@@ -282,6 +292,151 @@ impl Sweep<'_> {
                 for list in &lists {
                     self.compare.step(input, k, list)?;
                     self.inputs += 1;
+                }
+            }
+        }
+        Ok(())
+    }
+}
+
+/// Goal, index, and the premises as known-false and known-true predicates.
+type Says = (u32, u32, u32, u32);
+
+/// x and y, one action whose guards speak of both, and lemmas that are all accepted. `start` has 1 for each predicate that
+/// holds at node 0, 2 for each that fails; the opposites are forbidden.
+fn small(pred: &[RowText], sets: &[(u32, RowText)], start: &[u32], lemmas: &[Says]) -> Input {
+    let mut t = Text {
+        vars: vec![(0, 1); 2],
+        init: vec![never()],
+        pred: pred.to_vec(),
+        actions: vec![act(&[row(0, &[(0, 1), (1, 1)]), never()], sets)],
+        bad: vec![],
+    };
+    let mut words = Vec::new();
+    for (p, goal) in (0..).zip(start).filter(|(_, goal)| **goal != 0) {
+        words.extend(t.forced(START, *goal, p, 0, 0));
+        t.bad.push(if *goal == 1 { (1 << p, 0) } else { (0, 1 << p) });
+    }
+    words.extend(lemmas.iter().flat_map(|(goal, index, f, tr)| t.forced(0, *goal, *index, *f, *tr)));
+    Input { program: t.words(), lemmas: words }
+}
+
+/// Coefficients -1, 0 and 1 on x and y.
+fn small_rows() -> Vec<RowText> {
+    let terms = |c: i32| [(0, c / 3 - 1), (1, c % 3 - 1)].into_iter().filter(|(_, c)| *c != 0).collect();
+    (0..9).map(|c| (0, terms(c))).collect()
+}
+
+/// Nothing, x, y, or both set, each to 0, to itself and to the other one.
+fn small_sets() -> Vec<Vec<(u32, RowText)>> {
+    let [x, y] = [0, 1].map(|v| [(v, row(0, &[])), itself(v), (v, row(0, &[(1 - v, 1)]))].to_vec());
+    let both = pairs(&x, &y).into_iter().map(|(a, b)| vec![a, b]);
+    [vec![]].into_iter().chain(x.iter().chain(&y).map(|a| vec![a.clone()])).chain(both).collect()
+}
+
+fn pairs<A: Clone, B: Clone>(a: &[A], b: &[B]) -> Vec<(A, B)> {
+    a.iter().flat_map(|a| b.iter().map(|b| (a.clone(), b.clone()))).collect()
+}
+
+/// Predicates on these sets of variables, and a last one on all; actions that set these sets. At node 0 the last predicate
+/// holds, and every second of the others, the rest fail. An action that sets something makes the last one fail, and where
+/// that fails nothing can happen.
+fn over(terms: &[u32], sets: &[u32], holding: usize) -> Input {
+    let term = |v: u32| (v, [1, -1, 2, 256, -256, 512, 1000, -1000][v as usize]);
+    let row_on = |mask: u32| row(0, &bits(mask).map(term).collect::<Vec<_>>());
+    let set = |v: u32| if v % 3 == 0 { itself(v) } else { (v, row(0, &[])) };
+    let t = Text {
+        vars: vec![(0, 1); MAX_VARIABLES],
+        init: vec![never()],
+        pred: terms.iter().chain([&0xFF]).map(|mask| row_on(*mask)).collect(),
+        actions: sets.iter().map(|mask| act(&[row_on(0xFF), never()], &bits(*mask).map(set).collect::<Vec<_>>())).collect(),
+        bad: vec![],
+    };
+    let last = terms.len() as u32;
+    let mut lemmas = t.forced(START, 1, last, 0, 0);
+    lemmas.extend((0..terms.len()).flat_map(|p| t.forced(START, if p % 2 == holding { 1 } else { 2 }, p as u32, 0, 0)));
+    for (a, mask) in (0..).zip(sets) {
+        lemmas.extend(t.forced(a, 0, 0, 1 << last, 0));
+        if *mask != 0 {
+            lemmas.extend(t.forced(a, 2, last, 0, 0));
+        }
+    }
+    Input { program: t.words(), lemmas }
+}
+
+/// Where the action that sets these variables leads from node 0 there.
+fn stays(terms: &[u32], set: u32, holding: usize) -> Literals {
+    let last = 1 << terms.len();
+    let (mut known_false, mut known_true) = if set == 0 { (0, last) } else { (last, 0) };
+    for p in (0..terms.len()).filter(|p| terms[*p] & set == 0) {
+        if p % 2 == holding { known_true |= 1 << p } else { known_false |= 1 << p }
+    }
+    Literals { known_false, known_true }
+}
+
+/// The variables of a set, rising.
+fn bits(mask: u32) -> impl Iterator<Item = u32> {
+    (0..8).filter(move |v| mask >> v & 1 == 1)
+}
+
+impl Sweep<'_> {
+    /// A small logic, also with nothing untouched.
+    fn small(&mut self, input: &Input) -> Result<(), Difference> {
+        self.inputs += 1;
+        let judged = self.compare.judge(input, GRAPH_WORDS, PATH_WORDS, 0)?;
+        if let Some(looked) = self.compare.look(input, &judged)? {
+            self.compare.touch_all(input, &judged, &looked)?;
+        }
+        Ok(())
+    }
+
+    /// One predicate, unknown, true or false at node 0, and every set of lemmas for and against it: without a premise, from
+    /// it and from its opposite. No end is shown, so it is safe only where the action sets nothing or has no successor.
+    fn kept_by_one(&mut self) -> Result<(), Difference> {
+        let says: Vec<Says> = [1, 2].into_iter().flat_map(|goal| [(goal, 0, 0, 0), (goal, 0, 0, 1), (goal, 0, 1, 0)]).collect();
+        let some: Vec<Vec<Says>> = (0..64).map(|set: u32| bits(set).map(|i| says[i as usize]).collect()).collect();
+        for (pred, sets) in pairs(&small_rows(), &small_sets()) {
+            for (start, lemmas) in pairs(&[0, 1, 2], &some) {
+                self.small(&small(&[pred.clone()], &sets, &[start], &lemmas))?;
+            }
+        }
+        Ok(())
+    }
+
+    /// Two predicates, each unknown, true or false at node 0; a lemma or none for or against the first, and a lemma or none
+    /// for or against the second, which may have a literal of the first as premise. Every end is shown.
+    fn kept_by_two(&mut self) -> Result<(), Difference> {
+        let (rows, ways) = (small_rows(), small_sets());
+        let sets = [0, 1, 2, 4, 5, 15].map(|way| ways[way].clone());
+        let first: [&[Says]; 3] = [&[], &[(1, 0, 0, 0)], &[(2, 0, 0, 0)]];
+        let second: [&[Says]; 5] = [&[], &[(1, 1, 0, 0)], &[(2, 1, 0, 0)], &[(1, 1, 0, 1)], &[(2, 1, 1, 0)]];
+        let starts = pairs(&[0, 1, 2], &[0, 1, 2]);
+        for ((a, b), sets) in pairs(&pairs(&rows, &rows), &sets) {
+            let ends: Vec<Says> = sets.iter().flat_map(|(v, _)| [(3, *v, 0, 0), (4, *v, 0, 0)]).collect();
+            for (start, (one, two)) in pairs(&starts, &pairs(&first, &second)) {
+                self.small(&small(&[a.clone(), b.clone()], &sets, &[start.0, start.1], &[one, two, &ends].concat()))?;
+            }
+        }
+        Ok(())
+    }
+
+    /// Every set of variables in a predicate and every set of variables of an action: a literal is at the successor exactly
+    /// where they have none in common.
+    fn kept_by_variables(&mut self) -> Result<(), Difference> {
+        let all: Vec<u32> = (0..256).collect();
+        let groups = pairs(&all.chunks(13).collect::<Vec<_>>(), &all.chunks(MAX_ACTIONS).collect::<Vec<_>>());
+        for ((terms, sets), holding) in pairs(&groups, &[0, 1]) {
+            let input = over(terms, sets, holding);
+            let judged = self.compare.judge(&input, GRAPH_WORDS, PATH_WORDS, 0)?;
+            self.compare.look(&input, &judged)?;
+            self.inputs += 1;
+            let graph = Graph { words: self.compare.graph(), nodes: judged.nodes, actions: sets.len() };
+            for (action, set) in sets.iter().enumerate() {
+                let expected = stays(terms, *set, holding);
+                let next = graph.successor(0, action).map(|node| graph.literals(node));
+                if next != Some(expected) {
+                    let fault = format!("action {action} leads to {next:?} and not to {expected:?}");
+                    return Err(falsehood(&input, &judged, &fault));
                 }
             }
         }
