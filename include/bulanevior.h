@@ -174,7 +174,7 @@ BnvAsk bnv_ask(const uint32_t *words, size_t words_length, const uint32_t *lemma
  * That is proved whatever the lemmas are; nobody has to vouch for them. The other two verdicts are findings in the graph; no state
  * may be able to walk their path.
  *
- * A predicate whose row has no coefficient on a variable that an action sets keeps its literal across that action without a lemma.
+ * A predicate whose row has no coefficient on any variable that an action sets keeps its literal across that action without a lemma.
  *
  * A verdict fills the first BNV_GRAPH_WORDS words of the graph list with one record for each node, SETS, ORIGIN and an EDGE for each
  * action, and zeroes after them; and the first BNV_PATH_WORDS words of the path list with the STEP words that lead to the finding's

@@ -276,8 +276,8 @@ pub struct Judgement {
 }
 
 /// The graph into the first `GRAPH_WORDS` words of one list, the verdict, and the path to its node into the first `PATH_WORDS`
-/// words of the other. The lists need that many words; further ones are left. A predicate whose row has no coefficient on a variable
-/// that an action sets keeps its literal across that action without a lemma.
+/// words of the other. The lists need that many words; further ones are left. A predicate whose row has no coefficient on any
+/// variable that an action sets keeps its literal across that action without a lemma.
 pub fn judge(
     words: &[u32],
     lemmas: &[u32],
