@@ -1,11 +1,11 @@
-//! The graph and the verdict.
+//! The graph, the verdict and the list of findings.
 
 use std::collections::HashMap;
 
 use crate::lemma::{self, Goal, Lemma, Source};
 use crate::program::{self, Action, Literals, Program, Row};
 use crate::words::*;
-use crate::{Judged, Refusal};
+use crate::{Judged, Listed, Refusal};
 
 /// An accepted lemma, as the walk needs it.
 #[derive(Clone, Copy)]
@@ -178,46 +178,126 @@ fn write_path(nodes: &[Node], node: usize, path: &mut [u32]) {
     path[steps.len()..PATH_WORDS].fill(0);
 }
 
-/// Where the first finding is.
+/// A finding, and where it is.
 enum Finding {
     Forbid { node: usize, bad: usize },
     RunOff { node: usize, action: usize, variable: usize, high: bool },
 }
 
-/// "Nodes in number order; at each, first the forbidden combinations in order: one that no literal
-/// of the node contradicts gives *may forbid*. Then each action that has a successor, each variable
-/// it sets, low end before high: no applying lemma gives *may run off*."
-fn first_finding(program: &Program, shelf: &Shelf, nodes: &[Node]) -> Option<Finding> {
-    for (number, node) in nodes.iter().enumerate() {
-        for (bad, combination) in program.forbidden.iter().enumerate() {
-            if !combination.contradicts(&node.literals) {
-                return Some(Finding::Forbid { node: number, bad });
+impl Finding {
+    /// "node in bits 27..19, bit 18 set for a run-off, action in 17..14 (0 for a forbidden combination),
+    /// combination or variable in 13..11, bit 0 set for a high end."
+    fn word(&self) -> u32 {
+        let payload = match *self {
+            Finding::Forbid { node, bad } => node << 19 | bad << 11,
+            Finding::RunOff { node, action, variable, high } => {
+                node << 19 | 1 << 18 | action << 14 | variable << 11 | usize::from(high)
+            }
+        };
+        make(FINDING, payload as u32)
+    }
+}
+
+/// The ends that applying lemmas of an action show at a node, one bit per variable: low, then high.
+fn ends_shown(lemmas: &[Accepted], node: &Literals) -> [u32; 2] {
+    let (mut low, mut high) = (0, 0);
+    for lemma in lemmas.iter().filter(|lemma| lemma.premises.within(node)) {
+        match lemma.goal {
+            Goal::NotBelow(variable) => low |= 1 << variable,
+            Goal::NotAbove(variable) => high |= 1 << variable,
+            Goal::Cannot | Goal::Holds(_) | Goal::Fails(_) => {}
+        }
+    }
+    [low, high]
+}
+
+/// A show that is not refused: what was read, and the whole graph.
+struct Whole {
+    program: Program,
+    shelf: Shelf,
+    nodes: Vec<Node>,
+}
+
+impl Whole {
+    /// What both calls do when their lists are long enough: "2 to 4, 5 and 6, 11, 7", and the graph list
+    /// is filled.
+    fn of(words: &[u32], lemma_words: &[u32], graph: &mut [u32]) -> Result<Whole, Refusal> {
+        let program = program::read(words)?;
+        let lemmas = lemma::read(&program, lemma_words)?;
+        let shelf = Shelf::fill(&program, &lemmas)?;
+        // "path list [left]; first 9,216 graph words become zero"
+        let nodes = explore(&shelf).inspect_err(|_| graph[..GRAPH_WORDS].fill(0))?;
+        write_graph(&nodes, graph);
+        Ok(Whole { program, shelf, nodes })
+    }
+
+    /// All findings. "Nodes in number order". Request 2: "each once, in 01's judging order".
+    fn findings(&self) -> impl Iterator<Item = Finding> + '_ {
+        (0..self.nodes.len()).flat_map(|node| self.forbids_at(node).chain(self.run_offs_at(node)))
+    }
+
+    /// "at each, first the forbidden combinations in order: one that no literal of the node contradicts
+    /// gives *may forbid*."
+    fn forbids_at(&self, node: usize) -> impl Iterator<Item = Finding> + '_ {
+        let literals = &self.nodes[node].literals;
+        let open = |bad: &usize| !self.program.forbidden[*bad].contradicts(literals);
+        (0..self.program.forbidden.len()).filter(open).map(move |bad| Finding::Forbid { node, bad })
+    }
+
+    /// "Then each action that has a successor",
+    fn run_offs_at(&self, node: usize) -> impl Iterator<Item = Finding> + '_ {
+        let edges = &self.nodes[node].edges;
+        let judged = (0..edges.len()).filter(|action| edges[*action].is_some());
+        judged.flat_map(move |action| self.run_offs_by(node, action))
+    }
+
+    /// "each variable it sets, low end before high: no applying lemma gives *may run off*."
+    fn run_offs_by(&self, node: usize, action: usize) -> Vec<Finding> {
+        let [low, high] = ends_shown(&self.shelf.actions[action], &self.nodes[node].literals);
+        let mut found = Vec::new();
+        for variable in self.program.actions[action].assignments.iter().map(|a| a.variable) {
+            for (shown, high) in [(low, false), (high, true)] {
+                if shown >> variable & 1 == 0 {
+                    found.push(Finding::RunOff { node, action, variable, high });
+                }
             }
         }
-        for (action, edge) in node.edges.iter().enumerate() {
-            if edge.is_none() {
-                continue;
+        found
+    }
+
+    /// "The first finding is the verdict; none is *safe*. Every verdict carries the counts of nodes and of
+    /// EDGE words that name a successor. A finding also carries node and place, and the path".
+    fn verdict(&self, path: &mut [u32]) -> Judged {
+        let nodes = self.nodes.len();
+        let edges = self.nodes.iter().map(|n| n.edges.iter().flatten().count()).sum();
+        match self.findings().next() {
+            None => {
+                path[..PATH_WORDS].fill(0); // "Safe zeroes those 512."
+                Judged::Safe { nodes, edges }
             }
-            // One bit per variable whose end is shown here.
-            let (mut low, mut high) = (0u32, 0u32);
-            for lemma in &shelf.actions[action] {
-                match lemma.goal {
-                    Goal::NotBelow(v) if lemma.premises.within(&node.literals) => low |= 1 << v,
-                    Goal::NotAbove(v) if lemma.premises.within(&node.literals) => high |= 1 << v,
-                    _ => {}
-                }
+            Some(Finding::Forbid { node, bad }) => {
+                write_path(&self.nodes, node, path);
+                Judged::MayForbid { node, bad, nodes, edges }
             }
-            for assignment in &program.actions[action].assignments {
-                let variable = assignment.variable;
-                for (shown, high) in [(low, false), (high, true)] {
-                    if shown >> variable & 1 == 0 {
-                        return Some(Finding::RunOff { node: number, action, variable, high });
-                    }
-                }
+            Some(Finding::RunOff { node, action, variable, high }) => {
+                write_path(&self.nodes, node, path);
+                Judged::MayRunOff { node, action, variable, high, nodes, edges }
             }
         }
     }
-    None
+
+    /// "The answer is the number of findings. Unused words of the lent list are zeroed." And "12, returned
+    /// with the number of words needed, if the lent list is too short; it [...] leaves that list alone".
+    fn sheet(&self, list: &mut [u32]) -> Listed {
+        let words: Vec<u32> = self.findings().map(|finding| finding.word()).collect();
+        let count = words.len();
+        if list.len() < count {
+            return Listed::Refused(Refusal { number: 12, value: count as u64 });
+        }
+        list[..count].copy_from_slice(&words);
+        list[count..].fill(0);
+        Listed::Listed(count)
+    }
 }
 
 /// Judge: "1 graph, 1 path, 2 to 4, 5 and 6, 11, 7."
@@ -228,39 +308,21 @@ pub fn judge(words: &[u32], lemma_words: &[u32], graph: &mut [u32], path: &mut [
     if path.len() < PATH_WORDS {
         return Judged::Refused(Refusal { number: 1, value: 1 });
     }
-    let read = program::read(words).and_then(|program| {
-        let lemmas = lemma::read(&program, lemma_words)?;
-        let shelf = Shelf::fill(&program, &lemmas)?;
-        Ok((program, shelf))
-    });
-    let (program, shelf) = match read {
-        Ok(both) => both,
-        Err(refusal) => return Judged::Refused(refusal),
-    };
-    let nodes = match explore(&shelf) {
-        Ok(nodes) => nodes,
-        Err(refusal) => {
-            // "path list [left]; first 9,216 graph words become zero"
-            graph[..GRAPH_WORDS].fill(0);
-            return Judged::Refused(refusal);
-        }
-    };
-    write_graph(&nodes, graph);
-    // "the counts of nodes and of EDGE words that name a successor"
-    let count = nodes.len();
-    let edges = nodes.iter().map(|n| n.edges.iter().flatten().count()).sum();
-    match first_finding(&program, &shelf, &nodes) {
-        None => {
-            path[..PATH_WORDS].fill(0); // "Safe zeroes those 512."
-            Judged::Safe { nodes: count, edges }
-        }
-        Some(Finding::Forbid { node, bad }) => {
-            write_path(&nodes, node, path);
-            Judged::MayForbid { node, bad, nodes: count, edges }
-        }
-        Some(Finding::RunOff { node, action, variable, high }) => {
-            write_path(&nodes, node, path);
-            Judged::MayRunOff { node, action, variable, high, nodes: count, edges }
-        }
+    match Whole::of(words, lemma_words, graph) {
+        Ok(whole) => whole.verdict(path),
+        Err(refusal) => Judged::Refused(refusal),
+    }
+}
+
+/// Request 2: "The call takes program, lemmas, a graph list and this list, fills the graph list as judge
+/// does, and refuses as judge does but for the path; those refusals leave this list." Then 12, which "comes
+/// after 7 [...] and keeps the graph".
+pub fn findings(words: &[u32], lemma_words: &[u32], graph: &mut [u32], list: &mut [u32]) -> Listed {
+    if graph.len() < GRAPH_WORDS {
+        return Listed::Refused(Refusal { number: 1, value: 0 });
+    }
+    match Whole::of(words, lemma_words, graph) {
+        Ok(whole) => whole.sheet(list),
+        Err(refusal) => Listed::Refused(refusal),
     }
 }

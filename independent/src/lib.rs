@@ -1,5 +1,6 @@
 //! An independent implementation of document 01, "Show logic, lemmas and the abstract state graph",
-//! with request 1 of document 02, "Untouched predicates keep their literal".
+//! with requests 1 and 2 of document 02, "Untouched predicates keep their literal" and "Every finding on
+//! the sheet".
 
 pub mod bytes;
 pub mod judge;
@@ -9,7 +10,7 @@ pub mod records;
 pub mod shows;
 pub mod words;
 
-pub use judge::judge;
+pub use judge::{findings, judge};
 use words::*;
 
 /// The number of the table and what is returned with it.
@@ -49,6 +50,13 @@ pub enum Judged {
     Safe { nodes: usize, edges: usize },
     MayForbid { node: usize, bad: usize, nodes: usize, edges: usize },
     MayRunOff { node: usize, action: usize, variable: usize, high: bool, nodes: usize, edges: usize },
+    Refused(Refusal),
+}
+
+#[derive(Clone, Copy, Debug, PartialEq, Eq)]
+pub enum Listed {
+    /// "The answer is the number of findings."
+    Listed(usize),
     Refused(Refusal),
 }
 

@@ -1,9 +1,10 @@
 //! Test records: their words, and the line that answers one.
 
-use crate::{ask, judge, Asked, Judged, Refusal};
+use crate::{ask, findings, judge, Asked, Judged, Listed, Refusal};
 
 pub const ASK: u32 = 3;
 pub const JUDGE: u32 = 4;
+pub const FINDINGS: u32 = 5;
 
 #[derive(Clone, Debug, PartialEq, Eq, Default)]
 pub struct Record {
@@ -13,6 +14,7 @@ pub struct Record {
     pub lemmas: Vec<u32>,
     /// Lengths of the lent lists (0 for Ask).
     pub graph: u32,
+    /// For Findings that of the findings list.
     pub path: u32,
 }
 
@@ -48,7 +50,7 @@ pub fn decode(words: &[u32]) -> Result<Vec<Record>, String> {
         if body.len() < n || body.len() - n < m {
             return Err(format!("record {number}: the words are cut"));
         }
-        if header[0] != ASK && header[0] != JUDGE {
+        if ![ASK, JUDGE, FINDINGS].contains(&header[0]) {
             return Err(format!("record {number}: call {}", header[0]));
         }
         records.push(Record {
@@ -95,17 +97,37 @@ pub fn verdict(judged: Judged) -> String {
     }
 }
 
-/// The line that answers a record.
-pub fn answer(record: &Record) -> String {
-    if record.call == ASK {
-        return match ask(&record.program, &record.lemmas, record.k as usize) {
-            Asked::Accepted => "ACCEPTED".to_string(),
-            Asked::NotAccepted => "NOT ACCEPTED".to_string(),
-            Asked::Refused(refusal) => refused(refusal),
-        };
+fn ask_line(record: &Record) -> String {
+    match ask(&record.program, &record.lemmas, record.k as usize) {
+        Asked::Accepted => "ACCEPTED".to_string(),
+        Asked::NotAccepted => "NOT ACCEPTED".to_string(),
+        Asked::Refused(refusal) => refused(refusal),
     }
+}
+
+fn judge_line(record: &Record) -> String {
     let mut graph = lent_graph(record.graph);
     let mut path = lent_path(record.path);
     let judged = judge(&record.program, &record.lemmas, &mut graph, &mut path);
     format!("{} GRAPH {} PATH {}", verdict(judged), digest(&graph), digest(&path))
+}
+
+/// The findings list is lent with the pattern of a path list.
+fn findings_line(record: &Record) -> String {
+    let mut graph = lent_graph(record.graph);
+    let mut list = lent_path(record.path);
+    let answer = match findings(&record.program, &record.lemmas, &mut graph, &mut list) {
+        Listed::Listed(count) => format!("FINDINGS {count}"),
+        Listed::Refused(refusal) => refused(refusal),
+    };
+    format!("{answer} GRAPH {} LIST {}", digest(&graph), digest(&list))
+}
+
+/// The line that answers a record.
+pub fn answer(record: &Record) -> String {
+    match record.call {
+        ASK => ask_line(record),
+        FINDINGS => findings_line(record),
+        _ => judge_line(record),
+    }
 }

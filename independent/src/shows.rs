@@ -2,7 +2,7 @@
 //! carries it (`hand`), and a unit test compares.
 
 use crate::program::{Literals, Program};
-use crate::records::{Record, ASK, JUDGE};
+use crate::records::{Record, ASK, FINDINGS, JUDGE};
 use crate::words::*;
 
 #[derive(Clone, Debug)]
@@ -303,6 +303,17 @@ impl Book {
         self.put(name, record, hand);
     }
 
+    /// The findings list is of this length.
+    fn findings_with(&mut self, name: &str, p: &[u32], l: &[u32], graph: u32, list: u32, hand: &str) {
+        let (program, lemmas) = (p.to_vec(), l.to_vec());
+        let record = Record { call: FINDINGS, k: 0, program, lemmas, graph, path: list };
+        self.put(&format!("findings: {name}"), record, hand);
+    }
+
+    fn findings(&mut self, name: &str, p: &[u32], l: &[u32], list: u32, hand: &str) {
+        self.findings_with(name, p, l, GRAPH, list, hand);
+    }
+
     /// A fault through Judge or through Ask 0, in turn.
     fn fault(&mut self, name: &str, p: &[u32], l: &[u32], hand: &str) {
         if self.cases.len() % 2 == 0 {
@@ -343,6 +354,7 @@ pub fn cases() -> Vec<Case> {
     verdicts(&mut book);
     request_1(&mut book);
     random(&mut book);
+    request_2(&mut book);
     book.cases
 }
 
@@ -2372,5 +2384,396 @@ fn random(book: &mut Book) {
             let k = dice.below(8);
             book.ask(&format!("changed {seed}"), &p, &l, k, "");
         }
+    }
+}
+
+// ---------------------------------------------------------------------------------------------
+// Request 2: every finding on the sheet
+
+fn request_2(book: &mut Book) {
+    fade_findings(book);
+    fade_lists(book);
+    house_findings(book);
+    empty_graph_findings(book);
+    combination_findings(book);
+    end_findings(book);
+    findings_without_successor(book);
+    findings_of_two_nodes(book);
+    findings_with_what_is_kept(book);
+    findings_at_the_last_node(book);
+    many_findings(book);
+    findings_refused(book);
+    findings_by_chance(book);
+}
+
+fn found(count: usize) -> String {
+    format!("FINDINGS {count}")
+}
+
+/// Lemma k of Fade shows the low end (k even) or the high end of action k / 2: without it, one finding.
+fn fade_findings(book: &mut Book) {
+    let list = split_lemmas(&FADE_LEMMAS);
+    for length in [0, 1, 600] {
+        book.findings(&format!("fade, list of {length}"), &FADE, &FADE_LEMMAS, length, &found(0));
+    }
+    for mask in 1..16 {
+        let left_out: Vec<usize> = (0..4).filter(|k| mask >> k & 1 == 1).collect();
+        let l = leave_out(&list, &left_out.iter().map(|k| list[*k][0]).collect::<Vec<_>>());
+        book.findings(&format!("fade without lemmas {left_out:?}"), &FADE, &l, 4, &found(left_out.len()));
+    }
+    let reversed = [&list[3][..], &list[0]].concat();
+    book.findings("fade, lemmas 3 and 0 in this order", &FADE, &reversed, 4, &found(2));
+    let mut zero = FADE_LEMMAS.to_vec();
+    zero[10] = make(MULT, 0); // lemma 2: 1 and 0
+    book.findings("fade, lemma 2 all 0", &FADE, &zero, 4, &found(1));
+}
+
+/// Fade with no lemmas has four findings, without its last lemma one.
+fn fade_lists(book: &mut Book) {
+    for (graph, list) in [(GRAPH, 600), (GRAPH, 16_384), (GRAPH + 1, 4), (16_384, 4)] {
+        book.findings_with(&format!("fade, no lemmas, {graph}/{list}"), &FADE, &[], graph, list, &found(4));
+    }
+    for (graph, list) in [(GRAPH, 3), (GRAPH, 0), (16_384, 3)] {
+        let name = format!("fade, no lemmas, {graph}/{list}");
+        book.findings_with(&name, &FADE, &[], graph, list, "REFUSED 12 AT 4");
+    }
+    book.findings("fade without its last lemma, list of 1", &FADE, &FADE_LEMMAS[..12], 1, &found(1));
+    book.findings("fade without its last lemma, list of 0", &FADE, &FADE_LEMMAS[..12], 0, "REFUSED 12 AT 1");
+    book.findings_with("fade, longer graph list, list of 0", &FADE, &FADE_LEMMAS, 16_384, 0, &found(0));
+}
+
+/// House: one combination; actions 0 and 3 set house, 1 and 2 set level.
+fn house_findings(book: &mut Book) {
+    let (mut t, list) = (house(), house_lemmas());
+    let home = t.words();
+    // One node without literals: the combination, and both ends for four actions.
+    book.findings("house, no lemmas", &home, &[], 9, &found(9));
+    book.findings("house, no lemmas, list of 8", &home, &[], 8, "REFUSED 12 AT 9");
+    book.findings("house, no lemmas, list of 10", &home, &[], 10, &found(9));
+    book.findings("house, full lemmas", &home, &list.concat(), 7, &found(0));
+    // The graph of the full lemmas: four actions at node 0, three each at nodes 1 and 2.
+    let no_ends: Vec<u32> = list.iter().filter(|l| field(l[0], 19, 16) < 3).flatten().copied().collect();
+    book.findings("house, no ends shown", &home, &no_ends, 20, &found(20));
+    let fewer = needed(&home, &list.concat());
+    for (name, word, count) in [
+        ("house low by action 0", lemma_word(0, 3, 1), 2),
+        ("level high by action 2", lemma_word(2, 4, 0), 3),
+    ] {
+        let l = leave_out(&split_lemmas(&fewer), &[word]);
+        book.findings(&format!("house, {name} not shown"), &home, &l, 5, &found(count));
+    }
+    // At node 3 alone the combination is not contradicted.
+    book.findings("house, P0 kept", &home, &leave_out(&list, &HOUSE_P0_KEPT), 5, &found(1));
+    // 0 {not P0, not P1}: 1 and 4; 1 {not P0, P1}: 2 and 4; 2 {P0, not P1}: 3 and 4.
+    t.bad = vec![(0, 3), (3, 0), (1, 2), (2, 1), (0, 0)];
+    book.findings("house, five combinations", &t.words(), &fewer, 8, &found(6));
+}
+
+/// An action that can never happen, so that lemmas are at will; it sets these variables to 0.
+fn shut(variables: &[u32]) -> ActionText {
+    act(&[never()], &variables.iter().map(|v| (*v, row(0, &[]))).collect::<Vec<_>>())
+}
+
+/// Predicates without terms, which all actions keep; neither start nor actions can happen, so that
+/// lemmas are at will. The actions are given by the variables that they set.
+pub fn at_will(predicates: usize, sets: &[Vec<u32>], bad: &[(u32, u32)]) -> Text {
+    let highest = sets.iter().flatten().max().unwrap_or(&0);
+    Text {
+        vars: vec![(0, 1); *highest as usize + 1],
+        init: vec![never()],
+        pred: vec![row(0, &[]); predicates],
+        actions: sets.iter().map(|variables| shut(variables)).collect(),
+        bad: bad.to_vec(),
+    }
+}
+
+/// The same, and action i (below `bits`) shows P_i: the nodes are the sets of predicates, by size, and
+/// the one of all is the last. Each action has a successor everywhere.
+pub fn switches(bits: u32, sets: &[Vec<u32>], bad: &[(u32, u32)]) -> (Text, Vec<u32>) {
+    let t = at_will(bits as usize, sets, bad);
+    let l = (0..bits).flat_map(|i| t.forced(i, 1, i, 0, 0)).collect();
+    (t, l)
+}
+
+/// Lemmas for these ends: action, variable, goal.
+fn forced_ends(t: &Text, ends: &[(u32, u32, u32)]) -> Vec<u32> {
+    ends.iter().flat_map(|(action, variable, goal)| t.forced(*action, *goal, *variable, 0, 0)).collect()
+}
+
+/// "if it has no successor the graph is empty": no findings, whatever the combinations and ends.
+fn empty_graph_findings(book: &mut Book) {
+    let t = at_will(1, &[vec![0]], &[(0, 0), (0, 1)]);
+    let p = t.words();
+    let cannot = t.forced(START, 0, 0, 0, 0);
+    let clash = [t.forced(START, 1, 0, 0, 0), t.forced(START, 2, 0, 0, 0)].concat();
+    book.findings("empty graph by goal 0", &p, &cannot, 3, &found(0));
+    book.findings_with("empty graph by goal 0, longer", &p, &cannot, GRAPH + 3, 0, &found(0));
+    book.findings("empty graph by contradiction", &p, &clash, 2, &found(0));
+    // Otherwise both combinations and both ends.
+    let not = lemma(START, 0, 0, 0, 0, &[0]);
+    book.findings("goal 0 of the start not accepted", &p, &not, 5, &found(4));
+    // Nothing that could be found.
+    let p = at_will(0, &[], &[]).words();
+    book.findings("no actions, no combinations", &p, &[], 2, &found(0));
+    let p = at_will(0, &vec![vec![]; 16], &[]).words();
+    book.findings("16 actions that set nothing", &p, &[], 2, &found(0));
+}
+
+/// "each node with each combination it doesn't contradict". One node {P0, not P1}, no actions; then several
+/// nodes.
+fn combination_findings(book: &mut Book) {
+    let t = at_will(4, &[], &[]);
+    let l = [t.forced(START, 1, 0, 0, 0), t.forced(START, 2, 1, 0, 0)].concat();
+    let seven = [(1, 0), (0, 2), (1, 2), (3, 0), (0, 3), (1, 4), (4, 2)];
+    let with = |last: (u32, u32)| [&seven[..], &[last]].concat();
+    let second = vec![(2, 1), (1, 0), (0, 1), (0, 2), (2, 0), (3, 0), (4, 8), (1, 8)];
+    for (name, bad, count) in [
+        ("contradicted by one of two", vec![(0, 3)], 0),
+        ("the node itself", vec![(2, 1)], 1),
+        ("other predicates", vec![(8, 4)], 1),
+        ("the empty one", vec![(0, 0)], 1),
+        ("third and fourth of four", vec![(1, 0), (0, 2), (8, 0), (0, 0)], 2),
+        ("equal ones", vec![(1, 0), (2, 1), (2, 1)], 2),
+        ("last of eight", with((0, 8)), 1),
+        ("all eight contradicted", with((1, 8)), 0),
+        ("every second of eight", second, 4),
+        ("eight empty ones", vec![(0, 0); 8], 8),
+    ] {
+        book.findings(&format!("combinations, {name}"), &at_will(4, &[], &bad).words(), &l, 8, &found(count));
+    }
+    // {}, {P0}, {P1}, {P0, P1}: not P0 is contradicted at the second and the fourth.
+    let (t, l) = switches(2, &[vec![], vec![]], &[(1, 0), (0, 0)]);
+    book.findings("combinations at four nodes", &t.words(), &l, 6, &found(6));
+    let (t, l) = switches(3, &[vec![], vec![], vec![]], &[(0, 0)]);
+    book.findings("the empty combination at eight nodes", &t.words(), &l, 9, &found(8));
+}
+
+/// "each node, action that has a successor there, variable it sets and end without an applying lemma". One
+/// node without literals, to which all actions lead back.
+fn end_findings(book: &mut Book) {
+    let all: Vec<u32> = (0..8).collect();
+    let both = all.iter().flat_map(|v| [(0, *v, 3), (0, *v, 4)]);
+    let but_one: Vec<_> = both.filter(|end| *end != (0, 7, 4)).collect();
+    let last = [vec![vec![]; 15], vec![vec![7]]].concat();
+    let each: Vec<Vec<u32>> = (0..16).map(|action| vec![action % 8]).collect();
+    for (name, sets, shown, count) in [
+        ("both missing", vec![vec![0]], vec![], 2),
+        ("high missing", vec![vec![0]], vec![(0, 0, 3)], 1),
+        ("low missing", vec![vec![0]], vec![(0, 0, 4)], 1),
+        ("none missing", vec![vec![0]], vec![(0, 0, 4), (0, 0, 3)], 0),
+        ("variable 7", vec![vec![7]], vec![], 2),
+        ("eight variables", vec![all.clone()], vec![], 16),
+        ("eight variables, high of 7 missing", vec![all], but_one, 1),
+        ("action 15", last, vec![], 2),
+        ("16 actions", each, vec![], 32),
+        ("action 1 of three sets", vec![vec![], vec![0], vec![]], vec![], 2),
+        ("lemmas of the other action", vec![vec![0], vec![0]], vec![(0, 0, 3), (0, 0, 4)], 2),
+        ("some of eight", vec![vec![0, 1]; 2], vec![(0, 0, 3), (0, 0, 4), (1, 1, 3)], 5),
+    ] {
+        let t = at_will(0, &sets, &[]);
+        book.findings(&format!("ends, {name}"), &t.words(), &forced_ends(&t, &shown), 32, &found(count));
+    }
+    let t = at_will(0, &[vec![0]], &[]);
+    let l = [lemma(0, 3, 0, 0, 0, &[0, 0]), forced_ends(&t, &[(0, 0, 4)])].concat();
+    book.findings("ends, low by a lemma that is not accepted", &t.words(), &l, 2, &found(1));
+}
+
+/// Actions 0 and 1 set variables 0 and 1, no end is shown; where an action has no successor its ends are
+/// not listed.
+fn findings_without_successor(book: &mut Book) {
+    let t = at_will(1, &[vec![0], vec![1]], &[(0, 0)]);
+    let p = t.words();
+    let cannot = |action: u32| t.forced(action, 0, 0, 0, 0);
+    let (holds, fails) = (t.forced(0, 1, 0, 0, 0), t.forced(0, 2, 0, 0, 0));
+    for (name, l, count) in [
+        ("no action gone", vec![], 5),
+        ("action 0 gone by goal 0", vec![cannot(0)], 3),
+        ("action 1 gone by goal 0", vec![cannot(1)], 3),
+        ("both gone", vec![cannot(0), cannot(1)], 1),
+        ("action 0 gone by a clash", vec![holds, fails.clone()], 3),
+        ("action 0 gone by what it keeps", vec![t.forced(START, 1, 0, 0, 0), fails], 3),
+        ("goal 0 not accepted", vec![lemma(0, 0, 0, 0, 0, &[0])], 5),
+    ] {
+        book.findings(name, &p, &l.concat(), 5, &found(count));
+    }
+    // Node 0 {} goes by 0 to 1 {P0}, where action 1 cannot happen.
+    let (t, l) = switches(1, &[vec![0], vec![1]], &[]);
+    let l = [l, t.forced(1, 0, 0, 0, 1)].concat();
+    book.findings("action 1 gone at node 1 only", &t.words(), &l, 6, &found(6));
+}
+
+/// Two nodes: 0 {not P0} goes by 0 to 1 {P0}, and that to itself; action 1 leads back from each. Action 0
+/// touches P0, action 1 keeps it. The lemmas are those of the graph.
+pub fn two_nodes(bad: &[(u32, u32)]) -> (Text, Vec<u32>) {
+    let mut t = at_will(1, &[vec![0], vec![1]], bad);
+    t.pred = vec![on(&[0])];
+    let l = [t.forced(START, 2, 0, 0, 0), t.forced(0, 1, 0, 0, 0)].concat();
+    (t, l)
+}
+
+fn findings_of_two_nodes(book: &mut Book) {
+    let (t, l) = two_nodes(&[]);
+    book.findings("two nodes, no ends shown", &t.words(), &l, 8, &found(8));
+    // All ends shown but the high one of action 1.
+    let but_high = [l, forced_ends(&t, &[(0, 0, 3), (0, 0, 4), (1, 1, 3)])].concat();
+    let (at_0, at_1) = (t.forced(1, 4, 1, 1, 0), t.forced(1, 4, 1, 0, 1));
+    for (name, more, count) in [
+        ("shown at none", vec![], 2),
+        ("shown at 0", at_0.clone(), 1),
+        ("shown at 1", at_1.clone(), 1),
+        ("shown at each by its own lemma", [at_1, at_0].concat(), 0),
+        ("shown by a lemma that is not accepted", lemma(1, 4, 1, 0, 0, &[0, 0]), 2),
+    ] {
+        let l = [&but_high[..], &more].concat();
+        book.findings(&format!("two nodes, high {name}"), &t.words(), &l, 3, &found(count));
+    }
+    // Node 0: combination 1, low by action 1; node 1: combination 0, low by action 1.
+    let (t, l) = two_nodes(&[(0, 1), (1, 0)]);
+    let l = [l, forced_ends(&t, &[(0, 0, 3), (0, 0, 4), (1, 1, 4)])].concat();
+    book.findings("two nodes, combinations and low ends", &t.words(), &l, 4, &found(4));
+}
+
+/// Request 1: literals that are kept contradict combinations; where an action leads back by what it keeps,
+/// its ends are listed all the same.
+fn findings_with_what_is_kept(book: &mut Book) {
+    let (t, l) = single(2, on(&[0]), 1, setting(&[1]));
+    let list = split_lemmas(&l); // the start's, low, high
+    book.findings("P0 kept, its failing forbidden", &t.words(), &l, 3, &found(0));
+    book.findings("P0 kept, no ends shown", &t.words(), &list[0], 3, &found(2));
+    book.findings("P0 kept, low end shown", &t.words(), &without(&list, 2), 3, &found(1));
+    let (t, l) = single(2, on(&[0]), 1, setting(&[0]));
+    book.findings("P0 touched, its failing forbidden", &t.words(), &l, 3, &found(1));
+    // 0 {P0, not P1}, 1 {not P1}, 2 {P0}, 3 {}. P1 is not contradicted at 2 and 3, not P0 at 1 and 3.
+    let (t, l) = pair(&[setting(&[0]), setting(&[1])], &[(0, 2), (1, 0)]);
+    let l = [l, t.all_ends()].concat();
+    book.findings("x set, y set, P1 and not P0 forbidden", &t.words(), &l, 5, &found(4));
+}
+
+/// 512 nodes: nine predicates that all fail at the start, and action i below 9 takes that literal away and
+/// keeps the others, by lemmas where it touches them. Node 511 has none left. P0 to P5 speak of variables
+/// 0 to 5, the other three of 6; action 15 sets variable 7, the others nothing. All ends are shown but the
+/// high one of action 15, and that one where some literal is left.
+pub fn last_node(bad: &[(u32, u32)]) -> (Text, Vec<u32>) {
+    let variable = |i: u32| i.min(6);
+    let idle = vec![vec![]; 6];
+    let sets = [(0..9).map(|i| vec![variable(i)]).collect(), idle, vec![vec![7]]].concat();
+    let mut t = at_will(0, &sets, bad);
+    t.pred = (0..9).map(|i| on(&[variable(i)])).collect();
+    let mut l = [t.all_ends()[..18 * 4].to_vec(), t.forced(15, 3, 7, 0, 0)].concat();
+    for i in 0..9 {
+        l.extend(t.forced(START, 2, i, 0, 0));
+        l.extend(t.forced(15, 4, 7, 1 << i, 0));
+        let others = (0..9).filter(|j| *j != i && variable(*j) == variable(i));
+        l.extend(others.flat_map(|j| t.forced(i, 2, j, 1 << j, 0)));
+    }
+    (t, l)
+}
+
+fn findings_at_the_last_node(book: &mut Book) {
+    // All nine hold: contradicted wherever a literal is left.
+    let (t, l) = last_node(&[(0, 0x1FF); 8]);
+    book.findings("node 511, eight combinations and a high end", &t.words(), &l, 9, &found(9));
+}
+
+/// 512 nodes, nine predicates: the sets of `switches`.
+fn many_findings(book: &mut Book) {
+    let idle = vec![vec![]; 9];
+    let (t, l) = switches(9, &idle, &[(0x1FF, 0)]);
+    book.findings("512 nodes, a combination at node 0 only", &t.words(), &l, 2, &found(1));
+    let (t, l) = switches(9, &idle, &[(0, 0); 2]);
+    book.findings("1,024 findings", &t.words(), &l, 1024, &found(1024));
+    book.findings("1,024 findings, list of 1,023", &t.words(), &l, 1023, "REFUSED 12 AT 1024");
+    book.findings_with("1,024 findings, longer lists", &t.words(), &l, GRAPH + 2, 1030, &found(1024));
+    // 16 actions, one variable each, both ends.
+    let each: Vec<Vec<u32>> = (0..16).map(|action| vec![action % 8]).collect();
+    let (t, l) = switches(9, &each, &[]);
+    book.findings("16,384 findings", &t.words(), &l, 16_384, &found(16_384));
+    book.findings("16,384 findings, list of 16,383", &t.words(), &l, 16_383, "REFUSED 12 AT 16384");
+    // 512 x (8 + 16 x 8 x 2), the most.
+    let (t, l) = switches(9, &vec![(0..8).collect(); 16], &[(0, 0); 8]);
+    book.findings("135,168 findings, list of 16,384", &t.words(), &l, 16_384, "REFUSED 12 AT 135168");
+}
+
+/// Every refusal, where the list is too short as well; and refusal 1 before each.
+fn findings_refused(book: &mut Book) {
+    let changed = |at: usize, word: u32| {
+        let mut p = FADE.to_vec();
+        p[at] = word;
+        p
+    };
+    // 1,024 nodes, with an empty combination; the start has no rows.
+    let (mut t, tens) = switches(10, &vec![vec![]; 10], &[(0, 0)]);
+    t.init.clear();
+    let wide = t.words();
+    let five = [&tens[..], &[0]].concat();
+    let mut six = [tens.clone(), lemma(START, 0, 0, 0, 0, &[]).repeat(502)].concat();
+    six.push(make(LEMMA, PAYLOAD));
+    let faults: Vec<(&str, Vec<u32>, &[u32], String)> = vec![
+        ("2", FADE[..15].to_vec(), &[], refused(2, 15)),
+        ("3", changed(2, make(PRED, 15)), &[], refused(3, 2)),
+        ("4", changed(5, term_word(0, 0)), &[], refused(4, 5)),
+        ("4, lemma 5", changed(0, var_word(1, 0)), &FADE_LEMMAS[1..3], refused(4, 0)),
+        ("5", FADE.to_vec(), &FADE_LEMMAS[..3], refused(5, 3)),
+        ("5, 1,024 nodes", wide.clone(), &five, refused(5, 40)),
+        ("6, 1,024 nodes", wide.clone(), &six, refused(6, 1044)),
+        ("7", wide, &tens, refused(7, 512)),
+        ("12", FADE.to_vec(), &[], refused(12, 4)),
+        ("none", FADE.to_vec(), &FADE_LEMMAS, found(0)),
+    ];
+    for (name, p, l, hand) in &faults {
+        book.findings_with(&format!("refused, {name}, list of 3"), p, l, GRAPH + 5, 3, hand);
+    }
+    for (name, p, l, _) in &faults {
+        for (graph, list) in [(GRAPH - 1, 3), (0, 600)] {
+            // One fault at a time; 6 once, for its length.
+            if !name.contains(", ") || name.starts_with('6') && graph > 0 {
+                let name = format!("refused, {name}, {graph}/{list}");
+                book.findings_with(&name, p, l, graph, list, "REFUSED 1 AT 0");
+            }
+        }
+    }
+    for (name, p, l, hand) in faults.iter().filter(|(name, ..)| *name == "2" || *name == "7") {
+        book.findings(&format!("refused, {name}, list of 600"), p, l, 600, hand);
+    }
+}
+
+/// Lemmas at will by chance: three predicates on any of three variables, three actions that set any of
+/// them and one that sets the last, two combinations. Some of the ends are shown.
+pub fn sheet(seed: u64) -> (Text, Vec<u32>) {
+    let mut dice = Dice::new(seed + 11_000);
+    let sets: Vec<Vec<u32>> = (0..3).map(|_| dice.some(3)).collect();
+    let mut t = at_will(0, &[sets, vec![vec![2]]].concat(), &[]);
+    t.pred = (0..3).map(|_| on(&dice.some(3))).collect();
+    for _ in 0..2 {
+        let known = dice.below(8);
+        let holds = dice.below(8) & known;
+        t.bad.push((known & !holds, holds));
+    }
+    let ends = split_lemmas(&t.all_ends());
+    let mut l: Vec<u32> = ends.into_iter().filter(|_| dice.below(3) == 0).flatten().collect();
+    for i in dice.some(3) {
+        l.extend(t.forced(START, 1 + dice.below(2), i, 0, 0));
+    }
+    for action in 0..4 {
+        for _ in 0..2 {
+            let bit = 1 << dice.below(3);
+            let (f, holds) = [(0, 0), (bit, 0), (0, bit)][dice.below(3) as usize];
+            let sets = &t.actions[action as usize].sets;
+            let goal = dice.below(if sets.is_empty() { 3 } else { 5 });
+            let index = match goal {
+                0 => 0,
+                1 | 2 => dice.below(3),
+                _ => sets[dice.below(sets.len() as u32) as usize].0,
+            };
+            l.extend(t.forced(action, goal, index, f, holds));
+        }
+    }
+    (t, l)
+}
+
+fn findings_by_chance(book: &mut Book) {
+    for seed in 0..5 {
+        let (t, l) = sheet(seed);
+        book.findings(&format!("sheet {seed}"), &t.words(), &l, 40, "");
     }
 }

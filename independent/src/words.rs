@@ -16,6 +16,8 @@ pub const MULT: u32 = 10;
 pub const ORIGIN: u32 = 11;
 pub const EDGE: u32 = 12;
 pub const STEP: u32 = 13;
+/// Request 2: "A finding is one word of kind 14".
+pub const FINDING: u32 = 14;
 pub const END: u32 = 15;
 
 /// All 28 bits of a payload.

@@ -15,10 +15,13 @@ use Rattle.judge.specs.declared.Judged.{Judged}
 use Rattle.judge.specs.declared.Judged.the-variants.{Safe, MayForbid, MayRunOff, Refused}
 use Rattle.show.specs.declared.Shown.{Shown}
 use Rattle.show.specs.declared.Shown.the-variants.{TooLong, OddBytes, WordsShort, Answered}
+use Rattle.findings.specs.declared.Listed.{Listed}
+use Rattle.findings.specs.declared.Listed.the-variants.{All}
+use Rattle.findings.specs.declared.Listed.the-variants.{Refused as NotListed}
 use Rattle.view.specs.declared.Viewed.{Viewed}
 use Rattle.view.specs.declared.Viewed.the-variants.{Node, None}
 use Rattle.view.specs.declared.Viewed.the-variants.{Refused as NotViewed}
-use Rattle.exports.specs.Numbers.{checkOf, stepOf, askOf, judgeOf, showOf, successorOf}
+use Rattle.exports.specs.Numbers.{checkOf, stepOf, askOf, judgeOf, showOf, findingsOf, successorOf}
 
 pub check-nonzero : (c : Checked) → 1 ≤ checkOf c .answer
 check-nonzero (Good n) = omega arith
@@ -46,6 +49,10 @@ successor-nonzero (Node n) = omega arith
 successor-nonzero None = omega arith
 successor-nonzero (NotViewed r) = omega arith
 
+pub findings-nonzero : (l : Listed) → 1 ≤ findingsOf l .answer
+findings-nonzero (All n) = omega arith
+findings-nonzero (NotListed r) = omega arith
+
 pub show-nonzero : (s : Shown) → 1 ≤ showOf s .answer
 show-nonzero TooLong = omega arith
 show-nonzero OddBytes = omega arith
@@ -68,3 +75,7 @@ only-safe-shown TooLong h = absurd (omega arith)
 only-safe-shown OddBytes h = absurd (omega arith)
 only-safe-shown WordsShort h = absurd (omega arith)
 only-safe-shown (Answered l m a) h = let (n, e, is) = only-safe a h in (l, m, n, e, ap (Answered l m) is)
+
+pub only-none : (l : Listed) → findingsOf l .answer ≡ 2 → findingsOf l .count ≡ 0 → l ≡ All 0
+only-none (All n) h e = ap All e
+only-none (NotListed r) h e = absurd (omega arith)

@@ -7,6 +7,7 @@
 -- askOf       — Ask: 1 not accepted, 2 refused, 3 accepted
 -- judgeOf     — Judge: 1 may forbid with node and combination, 2 may run off with node, action, variable and end, 3 refused, 4 safe
 -- notJudged, showOf — a show's bytes: 1 too long, 2 odd bytes, 3 the words list is too short, 4 Judge's answer with the words of logic and lemmas
+-- findingsOf  — Findings: 1 refused, 2 listed with their number
 -- successorOf — the view: 1 none, 2 refused, 3 a node
 use mathlib.Core.Bool.{cond}
 use Rattle.words.specs.Refusals.{number, value}
@@ -25,6 +26,9 @@ use Rattle.judge.specs.declared.Judged.the-variants.{Safe, MayForbid, MayRunOff
 use Rattle.judge.specs.declared.Judged.the-variants.{Refused as NotJudged}
 use Rattle.show.specs.declared.Shown.{Shown}
 use Rattle.show.specs.declared.Shown.the-variants.{TooLong, OddBytes, WordsShort, Answered}
+use Rattle.findings.specs.declared.Listed.{Listed}
+use Rattle.findings.specs.declared.Listed.the-variants.{All}
+use Rattle.findings.specs.declared.Listed.the-variants.{Refused as NotListed}
 use Rattle.view.specs.declared.Viewed.{Viewed}
 use Rattle.view.specs.declared.Viewed.the-variants.{Node, None}
 use Rattle.view.specs.declared.Viewed.the-variants.{Refused as NotViewed}
@@ -34,6 +38,7 @@ use Rattle.exports.specs.declared.BnvStep.{BnvStep}
 use Rattle.exports.specs.declared.BnvAsk.{BnvAsk}
 use Rattle.exports.specs.declared.BnvJudge.{BnvJudge}
 use Rattle.exports.specs.declared.BnvShow.{BnvShow}
+use Rattle.exports.specs.declared.BnvFindings.{BnvFindings}
 use Rattle.exports.specs.declared.BnvSuccessor.{BnvSuccessor}
 
 abbrev pub checkOf : Checked → BnvCheck
@@ -79,6 +84,10 @@ showOf TooLong = record { answer = 1; logic = 0; lemmas = 0; judged = notJudged 
 showOf OddBytes = record { answer = 2; logic = 0; lemmas = 0; judged = notJudged }
 showOf WordsShort = record { answer = 3; logic = 0; lemmas = 0; judged = notJudged }
 showOf (Answered l m a) = record { answer = 4; logic = l; lemmas = m; judged = judgeOf a }
+
+abbrev pub findingsOf : Listed → BnvFindings
+findingsOf (All n) = record { answer = 2; refusal = 0; value = 0; count = n }
+findingsOf (NotListed r) = record { answer = 1; refusal = number r; value = value r; count = 0 }
 
 abbrev pub successorOf : Viewed → BnvSuccessor
 successorOf (Node n) = record { answer = 3; node = n; refusal = 0; value = 0 }

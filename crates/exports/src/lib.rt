@@ -9,10 +9,12 @@ ghost use Rattle.ask.specs.Calls.{ask, TrueIn};
 ghost use Rattle.judge.specs.Calls.{judge};
 ghost use Rattle.judge.specs.Worth.{SafeOf};
 ghost use Rattle.judge.specs.declared.Judged.the-variants.{Safe, Refused};
+ghost use Rattle.findings.specs.Calls.{listing};
 ghost use Rattle.view.specs.Views.{viewed};
 ghost use Rattle.show.specs.Show.{show, wordsLeft, SafeShow};
-ghost use Rattle.exports.specs.Numbers.{checkOf, partOf, stepOf, askOf, judgeOf, notJudged, showOf, successorOf};
+ghost use Rattle.exports.specs.Numbers.{checkOf, partOf, stepOf, askOf, judgeOf, notJudged, showOf, findingsOf, successorOf};
 use ask::Asked;
+use findings::Listed;
 use judge::Judged;
 use programs::Checked;
 use runs::Stepped;
@@ -304,6 +306,55 @@ pub extern "C" fn bnv_judge(
     ensures demand3 { λ r. ⌜ (r .verdict ≡ 4 → SafeOf (read (now (words .entry)))) ⌝ }
 {
     judge_of(judge::judge(words, lemmas, &mut *graph, &mut *path))
+}
+
+pub const BNV_FINDINGS_REFUSED: u32 = 1;
+
+pub const BNV_LISTED: u32 = 2;
+
+#[repr(C)]
+pub struct BnvFindings {
+    pub answer: u32,
+    pub refusal: u32,
+    pub value: usize,
+    // How many findings there are.
+    pub count: usize,
+}
+
+fn findings_of(l: Listed) -> BnvFindings
+    ensures { λ r. ⌜ r ≡ findingsOf l ⌝ }
+{
+    match l {
+        Listed::All(count) => BnvFindings {
+            answer: BNV_LISTED,
+            refusal: 0,
+            value: 0,
+            count,
+        },
+        Listed::Refused(why) => BnvFindings {
+            answer: BNV_FINDINGS_REFUSED,
+            refusal: words::number_of(why),
+            value: words::value_of(why),
+            count: 0,
+        },
+    }
+}
+
+// Findings.
+#[no_mangle]
+pub extern "C" fn bnv_findings(
+    words: &[u32],
+    lemmas: &[u32],
+    graph: &mut [u32],
+    findings: &mut [u32],
+) -> BnvFindings
+    ensures answer { λ r. ⌜ r ≡ findingsOf (listing (now (words .entry)) (now (lemmas .entry)) (now (graph .entry)) (now (findings .entry)) .answer) ⌝ }
+    ensures graph { λ _. ⌜ now (graph .exit) ≡ listing (now (words .entry)) (now (lemmas .entry)) (now (graph .entry)) (now (findings .entry)) .graph ⌝ }
+    ensures findings { λ _. ⌜ now (findings .exit) ≡ listing (now (words .entry)) (now (lemmas .entry)) (now (graph .entry)) (now (findings .entry)) .list ⌝ }
+    ensures nonzero { λ r. ⌜ 1 ≤ r .answer ⌝ }
+    ensures demand3 { λ r. ⌜ (r .answer ≡ 2 → r .count ≡ 0 → SafeOf (read (now (words .entry)))) ⌝ }
+{
+    findings_of(findings::findings(words, lemmas, &mut *graph, &mut *findings))
 }
 
 pub const BNV_TOO_LONG: u32 = 1;

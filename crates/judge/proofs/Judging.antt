@@ -1,17 +1,16 @@
 -- A whole graph judged: what the first finding needs, and the verdict and path that it gives.
 use mathlib.Core.Path.{_≡_, refl, sym, ap, subst}
 use mathlib.Core.Bool.{Bool}
-use mathlib.Core.List.{List, [], _∷_, map}
+use mathlib.Core.List.{List, [], _∷_}
 use Prim.Native.Nat.{ℕ, _≤_}
 use native.Mathlib.Omega.{arith}
-use lib.ListN.{length, replicate}
-use lib.Seq.{length-sets}
+use lib.ListN.{length}
 use Rattle.grammar.specs.Programs.{Program}
 use Rattle.programs.specs.declared.Image.{Image}
 use Rattle.lemmas.specs.Lemmas.{goalNumber, Lemma}
 use Rattle.lemmas.specs.Sources.{theProgram, Held}
 use Rattle.lemmas.proofs.SourceLaws.{counts}
-use Rattle.frame.specs.Masks.{maskOf, masksOf}
+use Rattle.frame.specs.Masks.{masksOf}
 use Rattle.gather.specs.Gathering.{Entry, placeOf}
 use Rattle.gather.proofs.Shown.{place-told}
 use Rattle.gather.specs.declared.Successor.{Successor}
@@ -30,8 +29,8 @@ use Rattle.verdict.proofs.Judging.{judged}
 use Rattle.verdict.specs.declared.Found.the-variants.{Nothing}
 use Rattle.verdict.specs.declared.Found.the-variants.{Forbid as MayMeet}
 use Rattle.verdict.specs.declared.Found.the-variants.{RunOff as MayLeave}
+use Rattle.survey.specs.Ready.{Ready}
 use Rattle.judge.specs.Calls.{verdict, pathTo}
-use Rattle.judge.specs.Ready.{Ready}
 use Rattle.judge.specs.declared.Judged.the-variants.{MayForbid, MayRunOff}
 use Rattle.judge.specs.declared.Judged.the-variants.{Safe as IsSafe}
 use Rattle.judge.proofs.Walks.{next}
@@ -93,7 +92,3 @@ module _ (ws : List ℕ) {image : Image} (held : Held ws image) {es : List Entry
 
   pub image-few : (image .forbidden ≤ 8) × (image .actions ≤ 16)
   image-few = (omega (arith, ap (λ (y : Image). y .forbidden) (held .same), r .good .forbidden .few), omega (arith, actions-are, r .good .actions .few))
-
--- a program's masks are 16 numbers
-pub masks-long : (p : Program) {kept : List ℕ} → kept ≡ masksOf p → 16 ≤ length kept
-masks-long p e = rw (e, length-sets (replicate 16 0) 0 (map (maskOf p) (p .actions))) (omega arith)

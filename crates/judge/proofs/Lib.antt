@@ -2,5 +2,4 @@ pub mod Walks
 pub mod Promised
 pub mod Counted
 pub mod Judging
-pub mod Surveying
 pub mod Whole

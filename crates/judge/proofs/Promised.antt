@@ -2,37 +2,106 @@
 use mathlib.Core.Path.{_≡_, refl, ap}
 use mathlib.Core.Bool.{Bool, true, false, cond}
 use mathlib.Core.List.{List, [], _∷_}
-use Prim.Native.Nat.{ℕ, _<_}
+use Prim.Native.Nat.{ℕ, _<_, _≤_}
 use native.Mathlib.Omega.{arith}
 use lib.Dec.{ltb}
 use lib.ListN.{length}
 use Rattle.words.specs.Refusals.{number}
 use Rattle.words.specs.declared.Refusal.{Refusal}
-use Rattle.words.specs.declared.Refusal.the-variants.{Short, Sum}
+use Rattle.words.specs.declared.Refusal.the-variants.{Short, Nodes, Sum}
 use Rattle.grammar.specs.Reading.{Read, got, refused}
 use Rattle.grammar.specs.Programs.{Program}
 use Rattle.grammar.specs.WellFormed.{WellFormed, Each}
 use Rattle.grammar.proofs.ProgramLaws.{accepted}
 use Rattle.grammar.proofs.Refusing.{program-refusal}
 use Rattle.programs.specs.Calls.{read}
-use Rattle.runs.specs.Runs.{Safe}
 use Rattle.lemmas.specs.Lemmas.{Lemma}
 use Rattle.lemmas.specs.LemmaGrammar.{readLemmas, LemmaOk}
 use Rattle.lemmas.proofs.LemmaLaws.{lemmas-accepted}
 use Rattle.lemmas.proofs.Refusing.{lemmas-refusal}
 use Rattle.search.specs.Search.{Graph, Result, Done, Over, count, links}
-use Rattle.records.specs.Records.{graphWords, graphList}
+use Rattle.records.specs.Records.{graphWords}
 use Rattle.abstraction.specs.Abstraction.{graph}
 use Rattle.abstraction.specs.Faithful.{TooMany, Demand2}
 use Rattle.abstraction.proofs.Demand2.{demand2}
 use Rattle.tables.specs.Off.{firstOff}
 use Rattle.verdict.specs.Verdicts.{Finding, Forbid, RunOff, findings, nodeOf, pathWords, pathList, stepsTo}
 use Rattle.safety.proofs.Safety.{safe}
-use Rattle.judge.specs.Calls.{Judgement, keep, verdict, pathTo, judgeGraph, judgeLemmas, judgeProgram, judge}
+use Rattle.survey.specs.Surveys.{Survey, stops, draws, surveyGraph, surveyLemmas, surveyProgram}
+use Rattle.judge.specs.Calls.{Judgement, keep, verdict, pathTo, judgeSurvey, judge}
 use Rattle.judge.specs.Worth.{OfRead, Drawn, Walked, Demand2Of, SafeOf}
 use Rattle.judge.specs.declared.Judged.the-variants.{Refused}
 use Rattle.judge.specs.declared.Judged.the-variants.{Safe as IsSafe}
 use Rattle.judge.proofs.Walks.{findings-within, graph-few, steps-walk}
+
+-- ---- what a survey is worth
+-- the graph that is drawn is that of the program and the lemmas which the words are
+pub record Known (ws lemmas gl : List ℕ) (p : Program) (ls : List Lemma) (g : Graph) (gl′ : List ℕ) : Type 0 where
+  pub rest : List ℕ
+  pub more : List ℕ
+  pub index : ℕ
+  pub at : ℕ
+  pub program : read ws ≡ got p rest index
+  pub list : readLemmas p lemmas ≡ got ls more at
+  pub good : WellFormed p
+  pub is : graph p ls ≡ Done g
+  pub drawn : Drawn p ls g (count g) (links g) gl gl′
+  pub safe-if : findings p ls g ≡ [] → SafeOf (read ws)
+
+-- a claim about that program and those lemmas is one about the words
+pub of-read : {ws lemmas gl : List ℕ} {p : Program} {ls : List Lemma} {g : Graph} {gl′ : List ℕ} → Known ws lemmas gl p ls g gl′
+    → (P : Program → List Lemma → Type 0) → P p ls → OfRead P (read ws) lemmas
+of-read k P h = rw (k .program) (rw (k .list) h)
+
+-- a survey stops by one of the base's refusals; 7 says that too many nodes are reachable, the others say nothing here
+abbrev pub Worth : List ℕ → List ℕ → List ℕ → Survey → Type 0
+Worth ws lemmas gl (stops r gl′) = (number r ≤ 11) × (r ≡ Nodes → OfRead TooMany (read ws) lemmas)
+Worth ws lemmas gl (draws p ls g gl′) = Known ws lemmas gl p ls g gl′
+
+-- a refusal other than 7
+pub other : {P : Type 0} (r : Refusal) → (number r ≡ 7 → ⊥) → r ≡ Nodes → P
+other r n e = absurd (n (ap number e))
+
+module _ (ws lemmas gl : List ℕ) where
+  module _ (p : Program) (us : List ℕ) (i : ℕ) (q : read ws ≡ got p us i) where
+    ok : WellFormed p
+    ok = accepted ws p us i q .good
+
+    module _ (ls : List Lemma) (vs : List ℕ) (j : ℕ) (q′ : readLemmas p lemmas ≡ got ls vs j) where
+      each : Each (LemmaOk p) ls
+      each = lemmas-accepted p ok lemmas ls vs j q′ .good .each
+
+      graph-worth : (r : Result) → graph p ls ≡ r → Worth ws lemmas gl (surveyGraph p ls r gl)
+      graph-worth (Done g) e =
+          let d : Demand2 p ls (Done g) = rw e at (demand2 p ok ls each) in
+          record {
+            rest = us;
+            more = vs;
+            index = i;
+            at = j;
+            program = q;
+            list = q′;
+            good = ok;
+            is = e;
+            drawn = record { faithful = d .0; enough = d .1; few = graph-few p ls g e; nodes-are = refl; edges-are = refl; records = refl };
+            safe-if = λ none. rw q (safe p ok ls each g (d .0) none);
+          }
+      graph-worth Over e = (omega arith, λ same. rw q (rw q′ (rw e at (demand2 p ok ls each))))
+
+    lemmas-worth : (m : Read (List Lemma)) → readLemmas p lemmas ≡ m → Worth ws lemmas gl (surveyLemmas p m gl)
+    lemmas-worth (refused r) e = (omega (arith, lemmas-refusal p lemmas e), other r (λ z. omega (arith, lemmas-refusal p lemmas e)))
+    lemmas-worth (got ls vs j) e = go (ltb (firstOff p ls) (length ls))
+      where
+        go : (b : Bool) → Worth ws lemmas gl (cond b (stops (Sum (firstOff p ls)) gl) (surveyGraph p ls (graph p ls) gl))
+        go true = (omega arith, other (Sum (firstOff p ls)) (λ z. omega arith))
+        go false = graph-worth ls vs j e (graph p ls) refl
+
+  program-worth : (m : Read Program) → read ws ≡ m → Worth ws lemmas gl (surveyProgram m lemmas gl)
+  program-worth (refused r) e = (omega (arith, program-refusal ws 0 e), other r (λ z. omega (arith, program-refusal ws 0 e)))
+  program-worth (got p us i) e = lemmas-worth p us i e (readLemmas p lemmas) refl
+
+  pub survey-worth : Worth ws lemmas gl (surveyProgram (read ws) lemmas gl)
+  survey-worth = program-worth (read ws) refl
 
 -- ---- demand 2
 -- of a judgement, with the two lists at entry
@@ -44,57 +113,26 @@ module _ (ws lemmas gl pl : List ℕ) where
   if-worthy true x y h k = h
   if-worthy false x y h k = k
 
-  -- a refusal other than 7 says nothing
-  kept-worthy : (r : Refusal) → (number r ≡ 7 → ⊥) → Worthy ws lemmas gl pl (keep (Refused r) gl pl)
-  kept-worthy r n e = absurd (n (ap number e))
+  module _ (p : Program) (ls : List Lemma) (g : Graph) (gl′ : List ℕ) (k : Known ws lemmas gl p ls g gl′) where
+    walked : (n : ℕ) → n < count g → Walked p g n pl (pathList (stepsTo g n) pl)
+    walked n h = record { steps = stepsTo g n; walk = steps-walk p ls g (k .is) n h; words = refl }
 
-  module _ (p : Program) (us : List ℕ) (i : ℕ) (q : read ws ≡ got p us i) where
-    ok : WellFormed p
-    ok = accepted ws p us i q .good
+    verdict-worthy : (fs : List Finding) → Each (λ f. nodeOf f < count g) fs → Demand2Of ws lemmas (verdict g fs) gl gl′ pl (pathList (pathTo g fs) pl)
+    verdict-worthy [] h = of-read k _ (g, k .drawn)
+    verdict-worthy (Forbid n b ∷ fs) h = of-read k _ (g, k .drawn, walked n (h .0))
+    verdict-worthy (RunOff n a v high ∷ fs) h = of-read k _ (g, k .drawn, walked n (h .0))
 
-    module _ (ls : List Lemma) (vs : List ℕ) (j : ℕ) (q′ : readLemmas p lemmas ≡ got ls vs j) where
-      good : Each (LemmaOk p) ls
-      good = lemmas-accepted p ok lemmas ls vs j q′ .good .each
+  survey-worthy : (s : Survey) → Worth ws lemmas gl s → Worthy ws lemmas gl pl (judgeSurvey s pl)
+  survey-worthy (stops r gl′) w = w .1
+  survey-worthy (draws p ls g gl′) w = verdict-worthy p ls g gl′ w (findings p ls g) (findings-within p ls g)
 
-      of-read : (P : Program → List Lemma → Type 0) → P p ls → OfRead P (read ws) lemmas
-      of-read P h = rw q (rw q′ h)
-
-      module _ (g : Graph) (e : graph p ls ≡ Done g) where
-        drawn : Drawn p ls g (count g) (links g) gl (graphList (length (p .actions)) (Done g) gl)
-        drawn =
-            let d : Demand2 p ls (Done g) = rw e at (demand2 p ok ls good) in
-            record { faithful = d .0; enough = d .1; few = graph-few p ls g e; nodes-are = refl; edges-are = refl; records = refl }
-
-        walked : (k : ℕ) → k < count g → Walked p g k pl (pathList (stepsTo g k) pl)
-        walked k h = record { steps = stepsTo g k; walk = steps-walk p ls g e k h; words = refl }
-
-        verdict-worthy : (fs : List Finding) → Each (λ f. nodeOf f < count g) fs
-            → Demand2Of ws lemmas (verdict g fs) gl (graphList (length (p .actions)) (Done g) gl) pl (pathList (pathTo g fs) pl)
-        verdict-worthy [] h = of-read _ (g, drawn)
-        verdict-worthy (Forbid k b ∷ fs) h = of-read _ (g, drawn, walked k (h .0))
-        verdict-worthy (RunOff k a v high ∷ fs) h = of-read _ (g, drawn, walked k (h .0))
-
-      graph-worthy : (r : Result) → graph p ls ≡ r → Worthy ws lemmas gl pl (judgeGraph p ls r gl pl)
-      graph-worthy (Done g) e = verdict-worthy g e (findings p ls g) (findings-within p ls g)
-      graph-worthy Over e = λ same. of-read TooMany (rw e at (demand2 p ok ls good))
-
-    lemmas-worthy : (m : Read (List Lemma)) → readLemmas p lemmas ≡ m → Worthy ws lemmas gl pl (judgeLemmas p m gl pl)
-    lemmas-worthy (refused r) e = kept-worthy r (λ z. omega (arith, lemmas-refusal p lemmas e))
-    lemmas-worthy (got ls vs j) e =
-        if-worthy (ltb (firstOff p ls) (length ls)) (keep (Refused (Sum (firstOff p ls))) gl pl) (judgeGraph p ls (graph p ls) gl pl)
-        (kept-worthy (Sum (firstOff p ls)) (λ z. omega arith)) (graph-worthy ls vs j e (graph p ls) refl)
-
-  program-worthy : (m : Read Program) → read ws ≡ m → Worthy ws lemmas gl pl (judgeProgram m lemmas gl pl)
-  program-worthy (refused r) e = kept-worthy r (λ z. omega (arith, program-refusal ws 0 e))
-  program-worthy (got p us i) e = lemmas-worthy p us i e (readLemmas p lemmas) refl
-
-pub judge-demand2 : (ws lemmas gl pl : List ℕ) → Worthy ws lemmas gl pl (judge ws lemmas gl pl)
-judge-demand2 ws lemmas gl pl =
-    let inner = judgeProgram (read ws) lemmas gl pl in
-    if-worthy ws lemmas gl pl (ltb (length gl) graphWords) (keep (Refused (Short 0)) gl pl) (cond (ltb (length pl) pathWords) (keep (Refused (Short 1)) gl pl) inner)
-    (kept-worthy ws lemmas gl pl (Short 0) (λ z. omega arith))
-    (if-worthy ws lemmas gl pl (ltb (length pl) pathWords) (keep (Refused (Short 1)) gl pl) inner (kept-worthy ws lemmas gl pl (Short 1) (λ z. omega arith))
-    (program-worthy ws lemmas gl pl (read ws) refl))
+  pub judge-demand2 : Worthy ws lemmas gl pl (judge ws lemmas gl pl)
+  judge-demand2 =
+      let inner = judgeSurvey (surveyProgram (read ws) lemmas gl) pl in
+      if-worthy (ltb (length gl) graphWords) (keep (Refused (Short 0)) gl pl) (cond (ltb (length pl) pathWords) (keep (Refused (Short 1)) gl pl) inner)
+      (other (Short 0) (λ z. omega arith))
+      (if-worthy (ltb (length pl) pathWords) (keep (Refused (Short 1)) gl pl) inner (other (Short 1) (λ z. omega arith))
+      (survey-worthy (surveyProgram (read ws) lemmas gl) (survey-worth ws lemmas gl)))
 
 -- ---- demand 3
 refused-safe : {P : Type 0} {r : Refusal} {n e : ℕ} → Refused r ≡ IsSafe n e → P
@@ -110,22 +148,13 @@ by-test : (b : Bool) (x y : Judgement) {P : Type 0} {n e : ℕ} → cond b x y .
 by-test true x y h f g = f h
 by-test false x y h f g = g h
 
-graph-safe : (p : Program) → WellFormed p → (ls : List Lemma) → Each (LemmaOk p) ls → (gl pl : List ℕ) (r : Result) → Demand2 p ls r → {n e : ℕ} → judgeGraph p ls r gl pl .answer ≡ IsSafe n e → Safe p
-graph-safe p ok ls good gl pl (Done g) d h = safe p ok ls good g (d .0) (no-finding g (findings p ls g) h)
-graph-safe p ok ls good gl pl Over d h = refused-safe h
+module _ (ws lemmas gl pl : List ℕ) {n e : ℕ} where
+  survey-safe : (s : Survey) → Worth ws lemmas gl s → judgeSurvey s pl .answer ≡ IsSafe n e → SafeOf (read ws)
+  survey-safe (stops r gl′) w h = refused-safe h
+  survey-safe (draws p ls g gl′) w h = w .safe-if (no-finding g (findings p ls g) h)
 
-lemmas-safe : (p : Program) → WellFormed p → (lemmas gl pl : List ℕ) (m : Read (List Lemma)) → readLemmas p lemmas ≡ m → {n e : ℕ} → judgeLemmas p m gl pl .answer ≡ IsSafe n e → Safe p
-lemmas-safe p ok lemmas gl pl (refused r) q h = refused-safe h
-lemmas-safe p ok lemmas gl pl (got ls us i) q h =
-    let good = lemmas-accepted p ok lemmas ls us i q .good .each in
-    by-test (ltb (firstOff p ls) (length ls)) (keep (Refused (Sum (firstOff p ls))) gl pl) (judgeGraph p ls (graph p ls) gl pl) h refused-safe (graph-safe p ok ls good gl pl (graph p ls) (demand2 p ok ls good))
-
-program-safe : (ws lemmas gl pl : List ℕ) (m : Read Program) → read ws ≡ m → {n e : ℕ} → judgeProgram m lemmas gl pl .answer ≡ IsSafe n e → SafeOf m
-program-safe ws lemmas gl pl (refused r) q h = refused-safe h
-program-safe ws lemmas gl pl (got p us i) q h = lemmas-safe p (accepted ws p us i q .good) lemmas gl pl (readLemmas p lemmas) refl h
-
-pub judge-safe : (ws lemmas gl pl : List ℕ) {n e : ℕ} → judge ws lemmas gl pl .answer ≡ IsSafe n e → SafeOf (read ws)
-judge-safe ws lemmas gl pl h =
-    let inner = judgeProgram (read ws) lemmas gl pl in
-    by-test (ltb (length gl) graphWords) (keep (Refused (Short 0)) gl pl) (cond (ltb (length pl) pathWords) (keep (Refused (Short 1)) gl pl) inner) h refused-safe (λ k.
-    by-test (ltb (length pl) pathWords) (keep (Refused (Short 1)) gl pl) inner k refused-safe (program-safe ws lemmas gl pl (read ws) refl))
+  pub judge-safe : judge ws lemmas gl pl .answer ≡ IsSafe n e → SafeOf (read ws)
+  judge-safe h =
+      let inner = judgeSurvey (surveyProgram (read ws) lemmas gl) pl in
+      by-test (ltb (length gl) graphWords) (keep (Refused (Short 0)) gl pl) (cond (ltb (length pl) pathWords) (keep (Refused (Short 1)) gl pl) inner) h refused-safe (λ k.
+      by-test (ltb (length pl) pathWords) (keep (Refused (Short 1)) gl pl) inner k refused-safe (survey-safe (surveyProgram (read ws) lemmas gl) (survey-worth ws lemmas gl)))

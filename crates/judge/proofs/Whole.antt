@@ -15,10 +15,11 @@ use Rattle.search.specs.Search.{Graph}
 use Rattle.records.specs.Records.{graphWords}
 use Rattle.tables.specs.Tabled.{theLemmas}
 use Rattle.verdict.specs.Verdicts.{Finding, findings, pathWords, pathList}
-use Rattle.judge.specs.Calls.{Judgement, verdict, pathTo, judge, judgeProgram}
+use Rattle.survey.specs.Surveys.{Survey, surveyProgram}
+use Rattle.survey.specs.Ready.{Complete, SurveyBy, SurveyOf}
+use Rattle.survey.specs.declared.Surveyed.{Surveyed}
+use Rattle.judge.specs.Calls.{Judgement, verdict, pathTo, judge, judgeSurvey}
 use Rattle.judge.specs.Worth.{Demand2Of, SafeOf}
-use Rattle.judge.specs.Ready.{Complete, SurveyBy, SurveyOf}
-use Rattle.judge.specs.declared.Surveyed.{Surveyed}
 use Rattle.judge.specs.declared.Judged.{Judged}
 use Rattle.judge.specs.declared.Judged.the-variants.{Refused}
 use Rattle.judge.specs.declared.Judged.the-variants.{Safe as IsSafe}
@@ -48,8 +49,8 @@ module _ (ws lemmas gl pl : List ℕ) where
         promised (rw (e, f) refl, (rw (e, f) refl, rw (e, f) refl))
 
     module _ (roomy : pathWords ≤ length pl) where
-      judged-by : judge ws lemmas gl pl ≡ judgeProgram (read ws) lemmas gl pl
-      judged-by = rw (le-ltb (length gl) graphWords long, le-ltb (length pl) pathWords roomy) refl
+      judged-by : (s : Survey) → surveyProgram (read ws) lemmas gl ≡ s → judge ws lemmas gl pl ≡ judgeSurvey s pl
+      judged-by s e = rw (le-ltb (length gl) graphWords long, le-ltb (length pl) pathWords roomy, e) refl
 
       abbrev p : Program
       p = theProgram ws
@@ -60,7 +61,7 @@ module _ (ws lemmas gl pl : List ℕ) where
       module _ (s : Surveyed) {gl′ : List ℕ} (S : SurveyOf ws lemmas gl gl′ s) where
         pub no-graph : {r : Refusal} → s .status ≡ Failed r → Promises (Refused r) gl′ pl
         no-graph {r} h =
-            let j = judged-by ∙ subst (λ (x : Status). SurveyBy x ws lemmas gl gl′ s) h S pl in
+            let j = judged-by _ (subst (λ (x : Status). SurveyBy x ws lemmas gl gl′ s) h S) in
             promised (rw j refl, (rw j refl, rw j refl))
 
         module _ (h : s .status ≡ IsReady) where
@@ -69,4 +70,4 @@ module _ (ws lemmas gl pl : List ℕ) where
 
           pub judged : {r : Judged} {pl′ : List ℕ} → (r ≡ verdict (complete .made) (found (complete .made))) × (pl′ ≡ pathList (pathTo (complete .made) (found (complete .made))) pl)
               → Promises r gl′ pl′
-          judged v = let j = judged-by ∙ complete .judged pl in promised (rw j (v .0, (complete .left, v .1)))
+          judged v = let j = judged-by _ (complete .drawn) in promised (rw j (v .0, (refl, v .1)))

@@ -7,23 +7,21 @@ use native.Mathlib.Omega.{arith}
 use lib.Dec.{eqb, ltb}
 use lib.ListN.{length, length-append}
 use Rattle.words.specs.declared.Refusal.{Refusal}
-use Rattle.words.specs.declared.Refusal.the-variants.{Short, Nodes, Sum}
+use Rattle.words.specs.declared.Refusal.the-variants.{Short}
 use Rattle.words.specs.Refusals.{number, value}
-use Rattle.grammar.specs.Reading.{Read, got, refused}
 use Rattle.grammar.specs.Programs.{Program}
 use Rattle.grammar.specs.WellFormed.{WellFormed, Each}
-use Rattle.grammar.proofs.ProgramLaws.{accepted}
 use Rattle.programs.specs.Calls.{read}
 use Rattle.lemmas.specs.Lemmas.{Lemma}
-use Rattle.lemmas.specs.LemmaGrammar.{readLemmas}
-use Rattle.search.specs.Search.{Graph, Result, Done, Over, count, links}
+use Rattle.search.specs.Search.{Graph, Done, count, links}
 use Rattle.records.specs.Records.{graphWords}
 use Rattle.abstraction.specs.Abstraction.{graph}
-use Rattle.tables.specs.Off.{firstOff}
 use Rattle.verdict.specs.Verdicts.{Finding, Forbid, RunOff, findings, nodeOf, stepsTo, pathWords, pathList}
-use Rattle.judge.specs.Calls.{Judgement, keep, verdict, pathTo, judgeGraph, judgeLemmas, judgeProgram, judge}
+use Rattle.survey.specs.Surveys.{Survey, stops, draws, surveyProgram}
+use Rattle.judge.specs.Calls.{Judgement, keep, verdict, pathTo, judgeSurvey, judge}
 use Rattle.judge.specs.declared.Judged.the-variants.{Refused}
 use Rattle.judge.proofs.Walks.{findings-within}
+use Rattle.judge.proofs.Promised.{Worth, survey-worth}
 use Rattle.show.specs.declared.Shown.the-variants.{TooLong, OddBytes}
 use Rattle.show.specs.Show.{mostBytes, wordsIn, logicIn, lemmasIn, ofWords, ofBytes}
 use Rattle.lines.specs.Text.{text, decimal, line}
@@ -64,27 +62,17 @@ module _ (p : Program) (ok : WellFormed p) (ls : List Lemma) (g : Graph) (e : gr
   finding-room (Forbid k b ∷ fs) h = omega (arith, length-append (forbidLine k b) (pathLine (stepsIn (pathList (stepsTo g k) (zeros pathWords)))), line-short (text "FORBID node ") k (text " bad ") b, path-short k (h .0))
   finding-room (RunOff k j v high ∷ fs) h = omega (arith, length-append (runOffLine k j v high) (pathLine (stepsIn (pathList (stepsTo g k) (zeros pathWords)))), run-off-short k j v high, path-short k (h .0))
 
-graph-room : (p : Program) → WellFormed p → (ls : List Lemma) (gl : List ℕ) (r : Result) → graph p ls ≡ r → Room (judgeGraph p ls r gl (zeros pathWords))
-graph-room p ok ls gl (Done g) e = finding-room p ok ls g e (findings p ls g) (findings-within p ls g)
-graph-room p ok ls gl Over e = refused-room Nodes (zeros pathWords)
-
-lemmas-room : (p : Program) → WellFormed p → (gl : List ℕ) (m : Read (List Lemma)) → Room (judgeLemmas p m gl (zeros pathWords))
-lemmas-room p ok gl (refused r) = refused-room r (zeros pathWords)
-lemmas-room p ok gl (got ls us i) =
-    let off = Sum (firstOff p ls) in
-    by-test (ltb (firstOff p ls) (length ls)) (keep (Refused off) gl (zeros pathWords)) (judgeGraph p ls (graph p ls) gl (zeros pathWords)) (refused-room off (zeros pathWords)) (graph-room p ok ls gl (graph p ls) refl)
-
-program-room : (ws lemmas gl : List ℕ) (m : Read Program) → read ws ≡ m → Room (judgeProgram m lemmas gl (zeros pathWords))
-program-room ws lemmas gl (refused r) e = refused-room r (zeros pathWords)
-program-room ws lemmas gl (got p us i) e = lemmas-room p (accepted ws p us i e .good) gl (readLemmas p lemmas)
+survey-room : (ws lemmas gl : List ℕ) (s : Survey) → Worth ws lemmas gl s → Room (judgeSurvey s (zeros pathWords))
+survey-room ws lemmas gl (stops r gl′) w = refused-room r (zeros pathWords)
+survey-room ws lemmas gl (draws p ls g gl′) w = finding-room p (w .good) ls g (w .is) (findings p ls g) (findings-within p ls g)
 
 judged-room : (logic lemmas : List ℕ) → Room (judge logic lemmas (zeros graphWords) (zeros pathWords))
 judged-room logic lemmas =
     let gl = zeros graphWords in
     let pl = zeros pathWords in
-    let inner = judgeProgram (read logic) lemmas gl pl in
+    let inner = judgeSurvey (surveyProgram (read logic) lemmas gl) pl in
     by-test (ltb (length gl) graphWords) (keep (Refused (Short 0)) gl pl) (cond (ltb (length pl) pathWords) (keep (Refused (Short 1)) gl pl) inner) (refused-room (Short 0) pl)
-    (by-test (ltb (length pl) pathWords) (keep (Refused (Short 1)) gl pl) inner (refused-room (Short 1) pl) (program-room logic lemmas gl (read logic) refl))
+    (by-test (ltb (length pl) pathWords) (keep (Refused (Short 1)) gl pl) inner (refused-room (Short 1) pl) (survey-room logic lemmas gl (surveyProgram (read logic) lemmas gl) (survey-worth logic lemmas gl)))
 
 pub lines-room : (b : List ℕ) → length (linesOf b) ≤ linesRoom
 unfolding linesOf shownLines ofBytes

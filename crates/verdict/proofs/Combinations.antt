@@ -107,7 +107,7 @@ among-false j set =
       λ w. back (j, w .0, inr (w .1, eq-eqb j j refl)),
     )
 
-contradicted-is : (c set : ℕ) → c < 2 ^ 28 → set < 2 ^ 28 → contradicted (literalsIn 14 c) (literalsIn 14 set) ≡ clashes c set
+pub contradicted-is : (c set : ℕ) → c < 2 ^ 28 → set < 2 ^ 28 → contradicted (literalsIn 14 c) (literalsIn 14 set) ≡ clashes c set
 unfolding Passes
 contradicted-is c set hc hs =
     let m = literalsIn 14 set in

@@ -56,15 +56,15 @@ module _ (asked shown : List ℕ) (k n j : ℕ) (same : firstUnshown asked shown
   off-end h = let e : n - j ≡ 0 = omega arith in rw e at same
 
 -- ---- the places that are asked for
-Asked : List Bool → ℕ → ℕ → Type 0
+unfoldable pub Asked : List Bool → ℕ → ℕ → Type 0
 Asked marks n q = (v : ℕ) × (v < n) × (getD marks v false ≡ true) × ((q ≡ placeOf 3 v) ⊎ (q ≡ placeOf 4 v))
 
-asked-is : (marks : List Bool) (n q : ℕ) → Member q (endsTo marks n) ↔ Asked marks n q
+pub asked-is : (marks : List Bool) (n q : ℕ) → Member q (endsTo marks n) ↔ Asked marks n q
 unfolding Asked
 asked-is marks n q = pairs-are (placeOf 3) (placeOf 4) (λ v. getD marks v false) n q
 
 -- ---- the ends of one action, m being the first place that is missing
-rising-within : (vars v : ℕ) (ss : List Assignment) (u : ℕ) → Rising vars v ss → setsVariable ss u ≡ true → (v ≤ u) × (u < vars)
+pub rising-within : (vars v : ℕ) (ss : List Assignment) (u : ℕ) → Rising vars v ss → setsVariable ss u ≡ true → (v ≤ u) × (u < vars)
 unfolding setsVariable
 rising-within vars v [] u r e = never e
 rising-within vars v (s ∷ ss) u r e =

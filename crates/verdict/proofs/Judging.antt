@@ -37,13 +37,13 @@ use Rattle.verdict.proofs.Combinations.{forbids-here, forbids-none}
 use Rattle.verdict.proofs.Ends.{ends-found}
 
 -- ---- lists
-combinations-all : (cs : List Literals) → length cs ≤ 8 → take (length cs) (sets (replicate 8 noLiterals) 0 cs) ≡ cs
+pub combinations-all : (cs : List Literals) → length cs ≤ 8 → take (length cs) (sets (replicate 8 noLiterals) 0 cs) ≡ cs
 combinations-all cs h =
     let room : 0 + length cs ≤ length {A = Literals} (replicate 8 noLiterals) = simp length-replicate (omega arith) in
     ap (take (length cs)) (sets-eq cs (replicate 8 noLiterals) 0 room) ∙ take-at cs (drop (0 + length cs) (replicate 8 noLiterals)) (length cs) refl
 
 -- action j, where the actions from j on begin with it
-from-j : (xs : List Action) (j : ℕ) (x : Action) (rest : List Action) → drop j xs ≡ x ∷ rest → (j < length xs) × (getD xs j noneAction ≡ x) × (drop (suc j) xs ≡ rest)
+pub from-j : (xs : List Action) (j : ℕ) (x : Action) (rest : List Action) → drop j xs ≡ x ∷ rest → (j < length xs) × (getD xs j noneAction ≡ x) × (drop (suc j) xs ≡ rest)
 from-j xs j x rest e =
     let none : j + 0 ≡ j = omega arith in
     let one : j + 1 ≡ suc j = omega arith in (
@@ -54,7 +54,7 @@ from-j xs j x rest e =
 
 module _ {p : Program} {ls : List Lemma} {g : Graph} {es : List Entry} {literals : List Literals} {forbidden : ℕ} {asked kept : List ℕ} {actions : ℕ} {l : List ℕ}
     (J : Judging p ls g es literals forbidden asked kept actions l) (k : ℕ) (hk : k < count g) where
-  node-at : getD l (recordPlace actions k) 0 ≡ nodeWord g k
+  pub node-at : getD l (recordPlace actions k) 0 ≡ nodeWord g k
   node-at =
       let e : recordPlace actions k + 0 ≡ recordPlace actions k = omega arith in
       ap (λ (y : ℕ). getD l y 0) (sym e) ∙ rw (J .listed .1) (record-at actions g (count g) (replicate (graphWords - recordPlace actions (count g)) 0 ++ drop graphWords (J .listed .0)) k 0 hk (omega arith))

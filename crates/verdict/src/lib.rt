@@ -147,7 +147,7 @@ fn first_free(literals: [Literals; 8], n: usize, set: u32) -> usize
 }
 
 // Does what is known after an action give a successor?
-fn has_successor(known: u64) -> bool
+pub fn has_successor(known: u64) -> bool
     ensures { λ r. ⌜ r ≡ given (successorOf known) ⌝ }
 {
     let next = gather::successor_of(known);

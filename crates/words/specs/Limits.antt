@@ -8,6 +8,7 @@
 -- mostLemmas, mostNodes    — how many lemmas a list may have; how many nodes a graph
 -- header                   — how many words of a node's record come before its edges: its literals and its origin
 -- graphWords, pathWords    — how many words the records of a graph have room in, and the steps of a path
+-- mostFindings             — how many findings a graph may have: at each node its combinations, and both ends of each variable that its actions set
 use Prim.Native.Nat.{ℕ, _+_, _*_}
 use lib.IntN.{ℤ, pos, negsuc}
 
@@ -59,3 +60,6 @@ graphWords = mostNodes * (header + mostActions)
 
 abbrev pub pathWords : ℕ
 pathWords = 512
+
+abbrev pub mostFindings : ℕ
+mostFindings = mostNodes * (mostForbidden + mostActions * (mostVariables * 2))

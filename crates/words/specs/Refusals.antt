@@ -5,7 +5,7 @@
 use Prim.Native.Nat.{ℕ}
 use Rattle.words.specs.Limits.{mostNodes}
 use Rattle.words.specs.declared.Refusal.{Refusal}
-use Rattle.words.specs.declared.Refusal.the-variants.{Short, Word, Limit, Value, Lemma, Lemmas, Nodes, Absent, Length, State, Sum}
+use Rattle.words.specs.declared.Refusal.the-variants.{Short, Word, Limit, Value, Lemma, Lemmas, Nodes, Absent, Length, State, Sum, Findings}
 
 abbrev pub number : Refusal → ℕ
 number (Short n) = 1
@@ -19,6 +19,7 @@ number (Absent n) = 8
 number (Length n) = 9
 number (State n) = 10
 number (Sum n) = 11
+number (Findings n) = 12
 
 abbrev pub value : Refusal → ℕ
 value (Short n) = n
@@ -32,3 +33,4 @@ value (Absent n) = n
 value (Length n) = n
 value (State n) = n
 value (Sum n) = n
+value (Findings n) = n

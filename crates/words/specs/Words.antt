@@ -69,6 +69,9 @@ EDGE = 12
 abbrev pub STEP : ℕ
 STEP = 13
 
+abbrev pub FINDING : ℕ
+FINDING = 14
+
 abbrev pub END : ℕ
 END = 15
 

@@ -48,6 +48,8 @@ impl Kind {
 
     pub const STEP: Kind = Kind(13);
 
+    pub const FINDING: Kind = Kind(14);
+
     pub const END: Kind = Kind(15);
 
     // The kind of a word.
@@ -214,6 +216,8 @@ pub enum Refusal {
     State(usize),
     // 11: a lemma's sum leaves 64 bits; the lemma's number.
     Sum(usize),
+    // 12: the findings list is too short; how many words are needed.
+    Findings(usize),
 }
 
 // The refusal's number in the document's table.
@@ -232,6 +236,7 @@ pub fn number_of(r: Refusal) -> u32
         Refusal::Length(_) => 9,
         Refusal::State(_) => 10,
         Refusal::Sum(_) => 11,
+        Refusal::Findings(_) => 12,
     }
 }
 
@@ -251,5 +256,6 @@ pub fn value_of(r: Refusal) -> usize
         Refusal::Length(n) => n,
         Refusal::State(n) => n,
         Refusal::Sum(n) => n,
+        Refusal::Findings(n) => n,
     }
 }

@@ -37,7 +37,8 @@ use Rattle.abstraction.specs.Abstraction.{among, allAmong, applies}
 use Rattle.tables.specs.Off.{firstOff}
 use Rattle.verdict.specs.Verdicts.{pathWords, contradicted, forbids, runsOff, findingsFrom}
 use Rattle.verdict.specs.Verdicts.{ends as rangeEnds}
-use Rattle.judge.specs.Calls.{Judgement, judgeProgram, judge}
+use Rattle.survey.specs.Surveys.{surveyProgram}
+use Rattle.judge.specs.Calls.{Judgement, judgeSurvey, judge}
 use Rattle.judge.specs.declared.Judged.{Judged}
 use Rattle.judge.specs.declared.Judged.the-variants.{Safe, MayForbid, MayRunOff}
 use Rattle.worked.specs.Shows.{fade, fadeLemmas, fadeOthers, house}
@@ -78,7 +79,7 @@ abbrev pub Judges : List ℕ → List ℕ → Judged → List ℕ → List ℕ �
 Judges ws lemmas r records steps = (gl pl : List ℕ) → graphWords ≤ length gl → pathWords ≤ length pl → judge ws lemmas gl pl ≡ left r records steps gl pl
 
 -- long enough lists pass the two first tests
-judged : (ws lemmas : List ℕ) (r : Judged) (records steps : List ℕ) → ((gl pl : List ℕ) → judgeProgram (read ws) lemmas gl pl ≡ left r records steps gl pl)
+judged : (ws lemmas : List ℕ) (r : Judged) (records steps : List ℕ) → ((gl pl : List ℕ) → judgeSurvey (surveyProgram (read ws) lemmas gl) pl ≡ left r records steps gl pl)
     → Judges ws lemmas r records steps
 judged ws lemmas r records steps h gl pl long roomy = rw (le-ltb (length gl) graphWords long, le-ltb (length pl) pathWords roomy) (h gl pl)
 

@@ -1,6 +1,7 @@
 use borrow.Author.Needs.{needs}
 use Rattle.lemmas.specs.Sources.{theProgram}
-use Rattle.judge.proofs.Judging.{nodes-few, judging, image-few, masks-long}
+use Rattle.survey.proofs.Surveying.{masks-long}
+use Rattle.judge.proofs.Judging.{nodes-few, judging, image-few}
 use Rattle.judge.proofs.first_finding.Statement.{statement}
 use Rattle.judge.proofs.first_finding.Tie as tie
 

@@ -1,10 +1,9 @@
 use Rattle.lemmas.specs.Sources.{theProgram}
 use Rattle.ask.proofs.Asking.{Program-read, program-read}
-use Rattle.judge.proofs.Surveying.{refuses, no-program, no-lemmas, begun, sum-off, actions-few, too-many, complete}
-use Rattle.judge.proofs.Judging.{masks-long}
+use Rattle.survey.proofs.Surveying.{refuses, no-program, no-lemmas, begun, sum-off, actions-few, too-many, complete, masks-long}
 use borrow.Author.Needs.{needs}
-use Rattle.judge.proofs.survey.Statement.{statement}
-use Rattle.judge.proofs.survey.Tie as tie
+use Rattle.survey.proofs.survey.Statement.{statement}
+use Rattle.survey.proofs.survey.Tie as tie
 
 known : (c : tie.After-enum-told) → Program-read (c .before .before .before .before .before .before .before .args .words .now) (c .before .before .before .load .ensures)
 known c = program-read (c .before .before .before .before .before .before .before .args .words .now) (c .before .before .before .load .ensures) (c .enum-told .given .1)

@@ -1,9 +1,9 @@
--- What the parts of Judge work on. Only contracts of functions within the project cite these.
+-- What a survey leaves to be judged. Only contracts of functions within the project cite these.
 --
 -- Ready     — a list holds the graph of a program and its lemmas, whose accepted ones these tables hold
 -- entriesOf — the accepted lemmas that tables hold
--- Complete  — image, tables, masks and counts of a survey are those of the show in two lists of words, and the graph list holds the graph, which Judge judges
--- SurveyBy, SurveyOf — what a survey comes to, by its status: complete, or refused as Judge refuses where both lists are long enough
+-- Complete  — image, tables, masks and counts of a survey are those of the show in two lists of words, and the graph list holds its graph
+-- SurveyBy, SurveyOf — what the survey of two lists of words comes to, by its status: complete, or stopped by the refusal
 use mathlib.Core.Path.{_≡_}
 use mathlib.Core.List.{List, map}
 use Prim.Native.Nat.{ℕ}
@@ -25,9 +25,8 @@ use Rattle.abstraction.specs.Abstraction.{graph}
 use Rattle.abstraction.specs.Claims.{claims}
 use Rattle.tables.specs.Tabled.{theLemmas, Tabled}
 use Rattle.tables.specs.declared.Tables.{Tables}
-use Rattle.judge.specs.Calls.{keep, judgeGraph, judgeProgram}
-use Rattle.judge.specs.declared.Judged.the-variants.{Refused}
-use Rattle.judge.specs.declared.Surveyed.{Surveyed}
+use Rattle.survey.specs.Surveys.{stops, draws, surveyProgram}
+use Rattle.survey.specs.declared.Surveyed.{Surveyed}
 
 pub record Ready (p : Program) (ls : List Lemma) (g : Graph) (es : List Entry) (nodes edges : ℕ) (l : List ℕ) : Type 0 where
   pub good : WellFormed p
@@ -48,13 +47,12 @@ pub record Complete (p : Program) (ls : List Lemma) (ws lemmas gl gl′ : List �
   pub masks : s .kept ≡ masksOf p
   pub made : Graph
   pub ready : Ready p ls made (entriesOf (s .tables)) (s .nodes) (s .edges) gl′
-  pub left : gl′ ≡ graphList (length (p .actions)) (Done made) gl
-  pub judged : (pl : List ℕ) → judgeProgram (read ws) lemmas gl pl ≡ judgeGraph p ls (Done made) gl pl
+  pub drawn : surveyProgram (read ws) lemmas gl ≡ draws p ls made gl′
 
 -- the graph list was `gl` and is `gl′`
 abbrev pub SurveyBy : Status → List ℕ → List ℕ → List ℕ → List ℕ → Surveyed → Type 0
 SurveyBy IsReady ws lemmas gl gl′ s = Complete (theProgram ws) (theLemmas (theProgram ws) lemmas) ws lemmas gl gl′ s
-SurveyBy (Failed r) ws lemmas gl gl′ s = (pl : List ℕ) → judgeProgram (read ws) lemmas gl pl ≡ keep (Refused r) gl′ pl
+SurveyBy (Failed r) ws lemmas gl gl′ s = surveyProgram (read ws) lemmas gl ≡ stops r gl′
 
 abbrev pub SurveyOf : List ℕ → List ℕ → List ℕ → List ℕ → Surveyed → Type 0
 SurveyOf ws lemmas gl gl′ s = SurveyBy (s .status) ws lemmas gl gl′ s

@@ -4,7 +4,8 @@ use mathlib.Core.Bool.{Bool, true, false, cond}
 use mathlib.Core.List.{List, [], _∷_, map}
 use Prim.Native.Nat.{ℕ, suc, _≤_, _<_}
 use native.Mathlib.Omega.{arith}
-use lib.ListN.{length, getD}
+use lib.ListN.{length, getD, replicate}
+use lib.Seq.{length-sets}
 use borrow.Author.Tests.{lt-ltb, le-ltb}
 use Rattle.words.specs.declared.Refusal.{Refusal}
 use Rattle.words.specs.declared.Refusal.the-variants.{Sum, Nodes}
@@ -21,7 +22,7 @@ use Rattle.lemmas.specs.LemmaGrammar.{readLemmas}
 use Rattle.lemmas.specs.Sources.{theProgram, listed}
 use Rattle.lemmas.specs.declared.Listed.{Listed}
 use Rattle.lemmas.proofs.SourceLaws.{counts}
-use Rattle.frame.specs.Masks.{masksOf}
+use Rattle.frame.specs.Masks.{maskOf, masksOf}
 use Rattle.gather.specs.Gathering.{entryOf}
 use Rattle.search.specs.Search.{Graph, Result, Done, Over, count, links}
 use Rattle.records.specs.Records.{graphList}
@@ -37,10 +38,9 @@ use Rattle.ask.proofs.Asking.{Program-read, read-refused, lemmas-refused, Lemma
 use Rattle.tables.specs.Tabled.{lemmasOr, theLemmas, Begun, Tabled}
 use Rattle.tables.specs.Off.{firstOff}
 use Rattle.tables.specs.declared.Tables.{Tables}
-use Rattle.judge.specs.Calls.{keep, judgeGraph, judgeProgram, judgeLemmas}
-use Rattle.judge.specs.Ready.{entriesOf, Complete, SurveyBy, SurveyOf}
-use Rattle.judge.specs.declared.Judged.the-variants.{Refused}
-use Rattle.judge.specs.declared.Surveyed.{Surveyed}
+use Rattle.survey.specs.Surveys.{stops, draws, surveyGraph, surveyLemmas, surveyProgram}
+use Rattle.survey.specs.Ready.{entriesOf, Complete, SurveyBy, SurveyOf}
+use Rattle.survey.specs.declared.Surveyed.{Surveyed}
 
 first-off-le : (p : Program) (ls : List Lemma) → firstOff p ls ≤ length ls
 unfolding firstOff
@@ -66,16 +66,16 @@ done-whole (Done g) n e h = record { made = g; done = refl; nodes-are = cc h; ed
 done-whole Over n e h = let z : _≡_ {A = ℕ} 0 1 = cc in absurd (omega arith)
 
 module _ (ws lemmas gl : List ℕ) where
-  -- refused as Judge refuses, the graph list left so
+  -- stopped by the refusal, the graph list left so
   abbrev Refuses : Refusal → List ℕ → Type 0
-  Refuses r gl′ = (pl : List ℕ) → judgeProgram (read ws) lemmas gl pl ≡ keep (Refused r) gl′ pl
+  Refuses r gl′ = surveyProgram (read ws) lemmas gl ≡ stops r gl′
 
   pub refuses : (s : Surveyed) {r : Refusal} {gl′ : List ℕ} → s .status ≡ Failed r → Refuses r gl′ → SurveyOf ws lemmas gl gl′ s
   refuses s {r} {gl′} e h = subst (λ (x : Status). SurveyBy x ws lemmas gl gl′ s) (sym e) h
 
   module _ {x : Loaded} (e : x ≡ loaded (read ws)) where
     pub no-program : {r : Refusal} → x .status ≡ Failed r → Refuses r gl
-    no-program h pl = ap (λ (m : Read Program). judgeProgram m lemmas gl pl) (read-refused ws e h)
+    no-program h = ap (λ (m : Read Program). surveyProgram m lemmas gl) (read-refused ws e h)
 
     module _ (k : Program-read ws e) {y : Listed} (l : y ≡ listed (readLemmas (theProgram ws) lemmas)) where
       abbrev p : Program
@@ -84,11 +84,11 @@ module _ (ws lemmas gl : List ℕ) where
       abbrev ls : List Lemma
       ls = theLemmas p lemmas
 
-      judged-lemmas : (pl : List ℕ) → judgeProgram (read ws) lemmas gl pl ≡ judgeLemmas p (readLemmas p lemmas) gl pl
-      judged-lemmas pl = ap (λ (m : Read Program). judgeProgram m lemmas gl pl) (k .is)
+      program-is : surveyProgram (read ws) lemmas gl ≡ surveyLemmas p (readLemmas p lemmas) gl
+      program-is = ap (λ (m : Read Program). surveyProgram m lemmas gl) (k .is)
 
       pub no-lemmas : {r : Refusal} → y .status ≡ Failed r → Refuses r gl
-      no-lemmas h pl = judged-lemmas pl ∙ ap (λ (m : Read (List Lemma)). judgeLemmas p m gl pl) (lemmas-refused ws p (k .is) (k .held .accepted .good) lemmas l 0 h)
+      no-lemmas h = program-is ∙ ap (λ (m : Read (List Lemma)). surveyLemmas p m gl) (lemmas-refused ws p (k .is) (k .held .accepted .good) lemmas l 0 h)
 
       module _ (h : y .status ≡ IsReady) where
         found : (i : ℕ) → Lemmas-read ws p (k .is) (k .held .accepted .good) lemmas l i
@@ -111,20 +111,20 @@ module _ (ws lemmas gl : List ℕ) where
             }
 
         module _ {t : Tables} (T : Tabled p ls t) where
-          judged-list : (pl : List ℕ) → judgeProgram (read ws) lemmas gl pl ≡ judgeLemmas p (got ls (found 0 .rest) (found 0 .index)) gl pl
-          judged-list pl = judged-lemmas pl ∙ ap (λ (m : Read (List Lemma)). judgeLemmas p m gl pl) list-is
+          lemmas-are : surveyProgram (read ws) lemmas gl ≡ surveyLemmas p (got ls (found 0 .rest) (found 0 .index)) gl
+          lemmas-are = program-is ∙ ap (λ (m : Read (List Lemma)). surveyLemmas p m gl) list-is
 
           pub sum-off : t .off < y .count → Refuses (Sum (t .off)) gl
-          sum-off o pl =
+          sum-off o =
               let off : firstOff p ls < length ls = omega (arith, T .off, begun .counted) in
-              judged-list pl ∙ rw (lt-ltb (firstOff p ls) (length ls) off, T .off) refl
+              lemmas-are ∙ rw (lt-ltb (firstOff p ls) (length ls) off, T .off) refl
 
           module _ (n : y .count ≤ t .off) where
             none-off : t .off ≡ length ls
             none-off = omega (arith, T .off, begun .counted, first-off-le p ls)
 
-            judged-whole : (pl : List ℕ) → judgeProgram (read ws) lemmas gl pl ≡ judgeGraph p ls (graph p ls) gl pl
-            judged-whole pl = judged-list pl ∙ rw (le-ltb (firstOff p ls) (length ls) (omega (arith, T .off, none-off))) refl
+            weighed : surveyProgram (read ws) lemmas gl ≡ surveyGraph p ls (graph p ls) gl
+            weighed = lemmas-are ∙ rw (le-ltb (firstOff p ls) (length ls) (omega (arith, T .off, none-off))) refl
 
             tables-are : entriesOf t ≡ map entryOf (claims p ls)
             tables-are = T .same none-off
@@ -144,9 +144,9 @@ module _ (ws lemmas gl : List ℕ) where
               left-is r q = el ∙ (λ i. graphList (actions-are i) (graph-is i) gl) ∙ ap (λ (m : Result). graphList (length (p .actions)) m gl) q
 
               pub too-many : z ≡ Full → Refuses Nodes l′
-              too-many f pl =
+              too-many f =
                   let o : graph p ls ≡ Over = over-full (graph p ls) (ap exploredOf (sym graph-is) ∙ sym ex ∙ f) in
-                  judged-whole pl ∙ ap (λ (r : Result). judgeGraph p ls r gl pl) o ∙ ap (λ (m : List ℕ). keep (Refused Nodes) m pl) (sym (left-is Over o))
+                  weighed ∙ ap (λ (r : Result). surveyGraph p ls r gl) o ∙ ap (stops Nodes) (sym (left-is Over o))
 
               pub complete : {nodes edges : ℕ} → z ≡ Whole nodes edges
                   → Complete p ls ws lemmas gl l′ (record { status = IsReady; image = x .image; tables = t; kept = masks; nodes = nodes; edges = edges })
@@ -167,6 +167,9 @@ module _ (ws lemmas gl : List ℕ) where
                       before = gl;
                       listed = left-is (Done (g .made)) (g .done);
                     };
-                    left = left-is (Done (g .made)) (g .done);
-                    judged = λ pl. judged-whole pl ∙ ap (λ (r : Result). judgeGraph p ls r gl pl) (g .done);
+                    drawn = weighed ∙ ap (λ (r : Result). surveyGraph p ls r gl) (g .done) ∙ ap (draws p ls (g .made)) (sym (left-is (Done (g .made)) (g .done)));
                   }
+
+-- a program's masks are 16 numbers
+pub masks-long : (p : Program) {kept : List ℕ} → kept ≡ masksOf p → 16 ≤ length kept
+masks-long p e = rw (e, length-sets (replicate 16 0) 0 (map (maskOf p) (p .actions))) (omega arith)

@@ -1,6 +1,6 @@
 use borrow.Author.Needs.{needs}
-use Rattle.judge.proofs.stopped.Statement.{statement}
-use Rattle.judge.proofs.stopped.Tie as tie
+use Rattle.survey.proofs.stopped.Statement.{statement}
+use Rattle.survey.proofs.stopped.Tie as tie
 
 returns : tie.Need-returns
 returns c = search needs
