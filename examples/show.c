@@ -41,7 +41,7 @@ static int mismatch(uint32_t number)
 /* A refusal in a sentence for the operator, with number and value behind it. */
 static int print_refusal(uint32_t number, size_t value)
 {
-    if (number < BNV_REFUSED_SHORT || number > BNV_REFUSED_SUM)
+    if (number < BNV_REFUSED_SHORT || number > BNV_REFUSED_FINDINGS)
         return mismatch(number);
     printf("refused: ");
     switch (number) {
@@ -77,6 +77,9 @@ static int print_refusal(uint32_t number, size_t value)
         break;
     case BNV_REFUSED_SUM:
         printf("the sum of lemma %zu does not fit 64 bits", value);
+        break;
+    case BNV_REFUSED_FINDINGS:
+        printf("the findings list is too short, %zu words are needed", value);
         break;
     }
     printf(" (%u AT %zu)\n", number, value);

@@ -44,7 +44,7 @@ static_assert(sizeof(size_t) == 8, "64-bit numbers only");
 _Static_assert(sizeof(size_t) == 8, "64-bit numbers only");
 #endif
 
-#define BNV_VERSION "0.3.0"
+#define BNV_VERSION "0.4.0"
 
 /* ---- Words: the kind in bits 31 to 28, the payload in bits 27 to 0. */
 
@@ -64,6 +64,7 @@ _Static_assert(sizeof(size_t) == 8, "64-bit numbers only");
 #define BNV_ORIGIN 11u /* where a node was first found */
 #define BNV_EDGE 12u  /* a node's successor */
 #define BNV_STEP 13u  /* an action of a path */
+#define BNV_FINDING 14u /* a finding */
 #define BNV_END 15u   /* the end of the logic */
 
 /* ---- A graph: the most nodes and actions, and how many words of a node's record, SETS and ORIGIN, come before its EDGE words. */
@@ -72,16 +73,28 @@ _Static_assert(sizeof(size_t) == 8, "64-bit numbers only");
 #define BNV_MOST_ACTIONS 16u
 #define BNV_HEADER_WORDS 2u
 
-/* ---- Lent lists of bnv_judge and bnv_show: the words that they need at least, and the only ones that are ever written. */
+/* ---- Lent lists of bnv_judge, bnv_show and bnv_findings: the words that they need at least, and the only ones that are ever written. */
 
 #define BNV_GRAPH_WORDS (BNV_MOST_NODES * (BNV_HEADER_WORDS + BNV_MOST_ACTIONS)) /* 9,216 */
 #define BNV_PATH_WORDS 512u
 
 /*
+ * ---- A finding, a word of kind BNV_FINDING in the list of bnv_findings: its node, whether it is a run-off, the action that may run
+ * off (0 for a forbidden combination), the combination or the variable, and whether it is the high end.
+ */
+
+#define BNV_FINDING_NODE(word) ((uint32_t)(word) >> 19 & 511u)
+#define BNV_FINDING_RUN_OFF(word) ((uint32_t)(word) >> 18 & 1u)
+#define BNV_FINDING_ACTION(word) ((uint32_t)(word) >> 14 & 15u)
+#define BNV_FINDING_PLACE(word) ((uint32_t)(word) >> 11 & 7u)
+#define BNV_FINDING_HIGH(word) ((uint32_t)(word) & 1u)
+
+/*
  * ---- Refusals: the number in `refusal`; what `value` holds stands behind it. 0 in `refusal` is no refusal.
  *
- * A refusal leaves every lent list as it was, with two exceptions: BNV_REFUSED_NODES zeroes the first BNV_GRAPH_WORDS words of the
- * graph list, and of bnv_show every refusal leaves the show's words at the front of the words list.
+ * A refusal leaves every lent list as it was, with three exceptions: BNV_REFUSED_NODES zeroes the first BNV_GRAPH_WORDS words of the
+ * graph list, BNV_REFUSED_FINDINGS comes with the graph in the graph list, and of bnv_show every refusal leaves the show's words at the
+ * front of the words list.
  */
 
 #define BNV_REFUSED_SHORT 1u  /* a lent list is too short: 0 the graph list, also the one of bnv_successor; 1 the path list */
@@ -97,6 +110,7 @@ _Static_assert(sizeof(size_t) == 8, "64-bit numbers only");
 #define BNV_REFUSED_LENGTH 9u /* the state list's length is not the number of variables: that length */
 #define BNV_REFUSED_STATE 10u /* a state value off its range: the lowest such variable */
 #define BNV_REFUSED_SUM 11u   /* a lemma's sum leaves signed 64 bits: the lowest such lemma */
+#define BNV_REFUSED_FINDINGS 12u /* the findings list is too short: how many words it needs */
 
 /* ---- Check: is the list a program, and how many variables, start rows, predicates, actions and forbidden combinations has it? */
 
@@ -231,6 +245,33 @@ typedef struct {
 
 BnvShow bnv_show(const uint8_t *bytes, size_t bytes_length, uint32_t *words, size_t words_length,
                  uint32_t *graph, size_t graph_length, uint32_t *path, size_t path_length);
+
+/*
+ * ---- Findings: all findings of one check, each once, in the order in which Judge looks for them.
+ *
+ * A finding is a node with a forbidden combination that no literal of it contradicts, or a node, an action that has a successor there,
+ * a variable that it sets and an end of its range, where no accepted lemma shows that it is kept to. There are none exactly where
+ * bnv_judge says BNV_SAFE, and so BNV_LISTED with count 0 promises what BNV_SAFE does; else the first is bnv_judge's own.
+ *
+ * BNV_LISTED: the findings' words stand at the front of the findings list, rising as numbers, and every word behind them is zero, to the
+ * list's end. The graph list is filled as bnv_judge fills it. Refusals in the order 1 graph, 2 to 4, 5 and 6, 11, 7, 12; each leaves the
+ * findings list, which may have any length. With BNV_MOST_FINDINGS words there is no refusal 12.
+ */
+
+#define BNV_MOST_FINDINGS (BNV_MOST_NODES * (8u + BNV_MOST_ACTIONS * 16u)) /* 135,168 */
+
+#define BNV_FINDINGS_REFUSED 1u
+#define BNV_LISTED 2u
+
+typedef struct {
+    uint32_t answer;
+    uint32_t refusal; /* BNV_FINDINGS_REFUSED */
+    size_t value;
+    size_t count; /* BNV_LISTED: how many findings there are */
+} BnvFindings;
+
+BnvFindings bnv_findings(const uint32_t *words, size_t words_length, const uint32_t *lemmas, size_t lemmas_length,
+                         uint32_t *graph, size_t graph_length, uint32_t *findings, size_t findings_length);
 
 /*
  * ---- Successor: what the graph list of a verdict says of a node and an action.

@@ -85,7 +85,7 @@ says /dev/zero 3 'too long: more than 65,536 bytes'
 
 # Every refusal's sentence, also of those that no show gets; the wrapper's test has the same file.
 printf '%s\n' '#define main shown' '#include "show.c"' '#undef main' \
-    'int main(void) { for (uint32_t n = 1; n < 12; n++) if (print_refusal(n, 512) != REFUSED) return 1; return 0; }' >"$room/refusals.c"
+    'int main(void) { for (uint32_t n = 1; n < 13; n++) if (print_refusal(n, 512) != REFUSED) return 1; return 0; }' >"$room/refusals.c"
 cc -std=c11 $strict -I"$PWD/include" -I"$PWD/examples" "$room/refusals.c" "$library" -o "$room/refusals"
 "$room/refusals" | diff tests/refusals.txt -
 

@@ -33,8 +33,8 @@ BELOW = {
     "crates/verdict/src/lib.rt": [(r"const (PATH)_ROOM: usize = (\d+);", "BNV_{}_WORDS")],
     "crates/show/src/lib.rt": [(r"const (BYTES|WORDS): usize = (\d+);", "BNV_SHOW_{}")],
 }
-# The header makes the one out of others; the other is no number.
-NOT_BELOW = {"BNV_GRAPH_WORDS", "BNV_VERSION"}
+# The header makes two out of others; the last is no number.
+NOT_BELOW = {"BNV_GRAPH_WORDS", "BNV_MOST_FINDINGS", "BNV_VERSION"}
 # What stands in the header around records, functions and constants, which are "..".
 SHELL = """\
 #ifndef BULANEVIOR_H
@@ -50,6 +50,12 @@ _Static_assert(sizeof(size_t) == 8, "64-bit numbers only");
 ..
 #define BNV_KIND(word) ((uint32_t)(word) >> 28)
 #define BNV_PAYLOAD(word) ((uint32_t)(word) & 0x0FFFFFFFu)
+..
+#define BNV_FINDING_NODE(word) ((uint32_t)(word) >> 19 & 511u)
+#define BNV_FINDING_RUN_OFF(word) ((uint32_t)(word) >> 18 & 1u)
+#define BNV_FINDING_ACTION(word) ((uint32_t)(word) >> 14 & 15u)
+#define BNV_FINDING_PLACE(word) ((uint32_t)(word) >> 11 & 7u)
+#define BNV_FINDING_HIGH(word) ((uint32_t)(word) & 1u)
 ..
 #ifdef __cplusplus
 }

@@ -125,6 +125,96 @@ fn of_show() {
 }
 
 #[test]
+fn of_findings() {
+    let record = |answer| BnvFindings {
+        answer,
+        refusal: REFUSED.0,
+        value: REFUSED.1,
+        count: 31,
+    };
+    assert_eq!(found(record(BNV_FINDINGS_REFUSED)), Err(ABSENT));
+    assert_eq!(found(record(BNV_LISTED)), Ok(31));
+}
+
+/// Words that tell the fields of a finding apart, and words that are none.
+#[test]
+fn of_finding_words() {
+    let forbid = |node, combination| Some(Finding::MayForbid { node, combination });
+    let run_off = |node, action, variable, end| {
+        Some(Finding::MayRunOff {
+            node,
+            action,
+            variable,
+            end,
+        })
+    };
+    for (word, finding) in [
+        (0xE000_0000, forbid(0, 0)),
+        (0xE008_0800, forbid(1, 1)),
+        (0xEFF8_3800, forbid(511, 7)),
+        (0xE004_0000, run_off(0, 0, 0, End::Low)),
+        (0xE004_0001, run_off(0, 0, 0, End::High)),
+        (0xE014_9001, run_off(2, 2, 2, End::High)),
+        (0xEFFF_F801, run_off(511, 15, 7, End::High)),
+        (0xEFFF_F800, run_off(511, 15, 7, End::Low)),
+        (0xE000_0001, None),
+        (0xE000_4000, None),
+        (0xD000_0000, None),
+        (0xF000_0000, None),
+        (0, None),
+    ] {
+        assert_eq!(Finding::of(word), finding, "{word:08X}");
+        if let Some(finding) = finding {
+            assert_eq!(finding.node(), (word >> 19 & 511) as usize);
+        }
+    }
+    for bit in 1..11 {
+        assert_eq!(Finding::of(0xE004_0000 | 1 << bit), None);
+    }
+    let list = [0xE000_0000, 0xE004_0001, 0, 0xE000_0000];
+    assert_eq!(listed(&list).count(), 2);
+}
+
+/// Two nodes with three actions: the second was found from the first by action 2.
+#[test]
+fn of_origins() {
+    let mut graph = [BNV_EDGE << 28; 10];
+    (graph[1], graph[6]) = (0xB000_1FFF, 0xB000_0002);
+    assert_eq!(origin(&graph, 3, 0), None);
+    assert_eq!(origin(&graph, 3, 1), Some((0, 2)));
+    assert_eq!(origin(&graph, 3, 2), None);
+    assert_eq!(origin(&graph, 2, 1), None);
+    assert_eq!(origin(&graph, usize::MAX, 2), None);
+    graph[6] = 0xB000_1FFE;
+    assert_eq!(origin(&graph, 3, 1), Some((511, 14)));
+}
+
+#[test]
+fn of_verdicts() {
+    let (node, combination) = (31, 32);
+    let forbid = Verdict::MayForbid { node, combination };
+    assert_eq!(
+        forbid.finding(),
+        Some(Finding::MayForbid { node, combination })
+    );
+    let (action, variable, end) = (33, 34, End::High);
+    let run_off = Verdict::MayRunOff {
+        node,
+        action,
+        variable,
+        end,
+    };
+    let expected = Finding::MayRunOff {
+        node,
+        action,
+        variable,
+        end,
+    };
+    assert_eq!(run_off.finding(), Some(expected));
+    assert_eq!(Verdict::Safe.finding(), None);
+}
+
+#[test]
 fn of_successor() {
     let record = |answer| BnvSuccessor {
         answer,
@@ -169,6 +259,7 @@ fn of_refusals() {
         Refusal::Length(9),
         Refusal::State(9),
         Refusal::Sum(9),
+        Refusal::Findings(9),
     ];
     for (number, refusal) in (1..).zip(all) {
         let value = if number == 7 { 512 } else { 9 };

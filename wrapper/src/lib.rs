@@ -30,6 +30,9 @@ pub const SHOW_BYTES: usize = raw::BNV_SHOW_BYTES as usize;
 /// The words that `show` needs in a words list, and the only ones that it ever writes there.
 pub const SHOW_WORDS: usize = raw::BNV_SHOW_WORDS as usize;
 
+/// The most findings of a graph: a list of as many words is never too short for `findings`.
+pub const MOST_FINDINGS: usize = raw::BNV_MOST_FINDINGS as usize;
+
 /// A word's kind, its bits 31 to 28.
 pub fn kind(word: u32) -> u32 {
     word >> 28
@@ -41,7 +44,8 @@ pub fn payload(word: u32) -> u32 {
 }
 
 /// Why a call refuses, with the value that is returned with the refusal. A refusal leaves every lent list, but for `Nodes`,
-/// which zeroes the first `GRAPH_WORDS` words of the graph list, and for the words list of `show`, which has the show's words.
+/// which zeroes the first `GRAPH_WORDS` words of the graph list, for `Findings`, which comes with the graph in it, and for the
+/// words list of `show`, which has the show's words.
 #[derive(Clone, Copy, Debug, PartialEq, Eq)]
 pub enum Refusal {
     /// A lent list is too short: 0 the graph list or a view's, 1 the path list.
@@ -66,6 +70,8 @@ pub enum Refusal {
     State(usize),
     /// A lemma's sum leaves signed 64 bits: the lowest such lemma.
     Sum(usize),
+    /// The findings list is too short: how many words it needs.
+    Findings(usize),
     /// No refusal of the library: its answer, or its refusal, has a number that is none, which is given here. The library is
     /// of another version than this crate. There is no verdict; say it loudly.
     Mismatch(u32),
@@ -85,6 +91,7 @@ impl Refusal {
             raw::BNV_REFUSED_LENGTH => Refusal::Length(value),
             raw::BNV_REFUSED_STATE => Refusal::State(value),
             raw::BNV_REFUSED_SUM => Refusal::Sum(value),
+            raw::BNV_REFUSED_FINDINGS => Refusal::Findings(value),
             other => Refusal::Mismatch(other),
         }
     }
@@ -103,6 +110,7 @@ impl Refusal {
             Refusal::Length(_) => raw::BNV_REFUSED_LENGTH,
             Refusal::State(_) => raw::BNV_REFUSED_STATE,
             Refusal::Sum(_) => raw::BNV_REFUSED_SUM,
+            Refusal::Findings(_) => raw::BNV_REFUSED_FINDINGS,
             Refusal::Mismatch(_) => u32::MAX,
         }
     }
@@ -121,7 +129,8 @@ impl Refusal {
             | Refusal::Absent(n)
             | Refusal::Length(n)
             | Refusal::State(n)
-            | Refusal::Sum(n) => n,
+            | Refusal::Sum(n)
+            | Refusal::Findings(n) => n,
         }
     }
 }
@@ -151,6 +160,9 @@ impl fmt::Display for Refusal {
             Refusal::Length(n) => write!(f, "the state has {n} values, not one for each variable")?,
             Refusal::State(n) => write!(f, "the value of variable {n} is off its range")?,
             Refusal::Sum(n) => write!(f, "the sum of lemma {n} does not fit 64 bits")?,
+            Refusal::Findings(n) => {
+                write!(f, "the findings list is too short, {n} words are needed")?
+            }
             Refusal::Mismatch(n) => {
                 return write!(f, "the library is of another version: {n} is no answer")
             }
@@ -267,6 +279,29 @@ pub enum Verdict {
     },
 }
 
+impl Verdict {
+    /// The finding that it is, if it is one.
+    pub fn finding(self) -> Option<Finding> {
+        match self {
+            Verdict::Safe => None,
+            Verdict::MayForbid { node, combination } => {
+                Some(Finding::MayForbid { node, combination })
+            }
+            Verdict::MayRunOff {
+                node,
+                action,
+                variable,
+                end,
+            } => Some(Finding::MayRunOff {
+                node,
+                action,
+                variable,
+                end,
+            }),
+        }
+    }
+}
+
 /// A verdict, and the counts of the graph's nodes and edges.
 #[derive(Clone, Copy, Debug, PartialEq, Eq)]
 pub struct Judgement {
@@ -316,6 +351,101 @@ pub fn actions(path: &[u32]) -> impl Iterator<Item = u32> + '_ {
         .copied()
         .take_while(|&w| kind(w) == raw::BNV_STEP)
         .map(payload)
+}
+
+/// A node with a forbidden combination that it may meet, or with an action that may run a variable off an end of its range.
+#[derive(Clone, Copy, Debug, PartialEq, Eq)]
+pub enum Finding {
+    MayForbid {
+        node: usize,
+        combination: usize,
+    },
+    MayRunOff {
+        node: usize,
+        action: usize,
+        variable: usize,
+        end: End,
+    },
+}
+
+impl Finding {
+    /// The finding that a word is: node in bits 27 to 19, bit 18 set for a run-off, action in 17 to 14, combination or variable
+    /// in 13 to 11, bit 0 set for the high end. None if the word is of another kind or has another bit.
+    pub fn of(word: u32) -> Option<Finding> {
+        let bits = |high: u32, low: u32| (word >> low & ((2 << (high - low)) - 1)) as usize;
+        if kind(word) != raw::BNV_FINDING || bits(10, 1) != 0 {
+            return None;
+        }
+        let (node, action, place) = (bits(27, 19), bits(17, 14), bits(13, 11));
+        if bits(18, 18) == 1 {
+            return Some(Finding::MayRunOff {
+                node,
+                action,
+                variable: place,
+                end: if bits(0, 0) == 1 { End::High } else { End::Low },
+            });
+        }
+        let none = action == 0 && bits(0, 0) == 0;
+        none.then_some(Finding::MayForbid {
+            node,
+            combination: place,
+        })
+    }
+
+    /// Its node.
+    pub fn node(self) -> usize {
+        match self {
+            Finding::MayForbid { node, .. } | Finding::MayRunOff { node, .. } => node,
+        }
+    }
+}
+
+/// All findings of one check, each once, in the order in which Judge looks for them, and their number. They go to the front of
+/// the findings list, which `listed` reads; the words behind them become zero, to its end. The graph list is filled as by
+/// `judge`. There are none exactly where Judge says safe, and so 0 promises what `Verdict::Safe` does; else the first is
+/// Judge's own. With `MOST_FINDINGS` words the findings list is long enough; where it is too short it is left alone, and
+/// `Refusal::Findings` says how many words it needs.
+///
+/// ```
+/// use bulanevior::*;
+/// // A level of 0 to 1,000, and an action that takes 10 off, with no guard and no lemma.
+/// let logic = [0x100003E8, 0x40000000, 0x50000000, 0x60000001, 0x70000000, 0x2FFFFFF6, 0x30000001, 0xF0000000];
+/// let (mut graph, mut list) = ([0; GRAPH_WORDS], [0; 8]);
+/// assert_eq!(findings(&logic, &[], &mut graph, &mut list), Ok(2));
+/// let run_off = |end| Finding::MayRunOff { node: 0, action: 0, variable: 0, end };
+/// assert!(listed(&list).eq([run_off(End::Low), run_off(End::High)]));
+/// assert_eq!(findings(&logic, &[], &mut graph, &mut list[..1]), Err(Refusal::Findings(2)));
+/// ```
+pub fn findings(
+    words: &[u32],
+    lemmas: &[u32],
+    graph: &mut [u32],
+    list: &mut [u32],
+) -> Result<usize, Refusal> {
+    found(raw::findings(words, lemmas, graph, list))
+}
+
+fn found(f: raw::BnvFindings) -> Result<usize, Refusal> {
+    match f.answer {
+        raw::BNV_FINDINGS_REFUSED => Err(Refusal::of(f.refusal, f.value)),
+        raw::BNV_LISTED => Ok(f.count),
+        other => Err(Refusal::Mismatch(other)),
+    }
+}
+
+/// The findings of a list that `findings` has filled.
+pub fn listed(list: &[u32]) -> impl Iterator<Item = Finding> + '_ {
+    list.iter().map_while(|&w| Finding::of(w))
+}
+
+/// Where a node was first found, by its ORIGIN word in a graph list that `judge`, `show` or `findings` has filled: its parent and
+/// the action. None for node 0, and where the list has no such word.
+pub fn origin(graph: &[u32], actions: usize, node: usize) -> Option<(usize, usize)> {
+    let place = node.checked_mul(HEADER_WORDS + actions)?.checked_add(1)?;
+    let word = *graph.get(place)?;
+    let (parent, action) = (payload(word) >> 4 & 511, word & 15);
+    let there = kind(word) == raw::BNV_ORIGIN && payload(word) != 0x1FFF;
+    there.then_some((parent as usize, action as usize))
 }
 
 /// A show, as its bytes were read: the lists for `check`, `action_part`, `step` and `ask`, and Judge's answer.
@@ -483,6 +613,14 @@ mod tests {
                 value: 0,
             })
         });
+        tried(&[BNV_LISTED], |answer| {
+            found(BnvFindings {
+                answer,
+                refusal: 0,
+                value: 0,
+                count: 0,
+            })
+        });
         tried(&[BNV_NO_NODE, BNV_NODE], |answer| {
             succeeded(BnvSuccessor {
                 answer,
@@ -561,7 +699,7 @@ mod tests {
 
     #[test]
     fn sentences_are_those_of_the_example_in_c() {
-        let said: String = (1..12)
+        let said: String = (1..13)
             .map(|n| format!("refused: {}\n", Refusal::of(n, 512)))
             .collect();
         assert_eq!(said, include_str!("../../tests/refusals.txt"));

@@ -16,6 +16,7 @@ pub const BNV_MULT: u32 = 10;
 pub const BNV_ORIGIN: u32 = 11;
 pub const BNV_EDGE: u32 = 12;
 pub const BNV_STEP: u32 = 13;
+pub const BNV_FINDING: u32 = 14;
 pub const BNV_END: u32 = 15;
 
 /// The most nodes of a graph and actions of a program, and the words of a node's record before its EDGE words.
@@ -39,6 +40,7 @@ pub const BNV_REFUSED_ABSENT: u32 = 8;
 pub const BNV_REFUSED_LENGTH: u32 = 9;
 pub const BNV_REFUSED_STATE: u32 = 10;
 pub const BNV_REFUSED_SUM: u32 = 11;
+pub const BNV_REFUSED_FINDINGS: u32 = 12;
 
 pub const BNV_GOOD: u32 = 1;
 pub const BNV_CHECK_REFUSED: u32 = 2;
@@ -130,6 +132,21 @@ pub struct BnvShow {
     pub judged: BnvJudge,
 }
 
+/// The most findings of a graph.
+pub const BNV_MOST_FINDINGS: u32 = BNV_MOST_NODES * (8 + BNV_MOST_ACTIONS * 16);
+
+pub const BNV_FINDINGS_REFUSED: u32 = 1;
+pub const BNV_LISTED: u32 = 2;
+
+#[repr(C)]
+#[derive(Clone, Copy, Debug, PartialEq, Eq)]
+pub struct BnvFindings {
+    pub answer: u32,
+    pub refusal: u32,
+    pub value: usize,
+    pub count: usize,
+}
+
 pub const BNV_NO_NODE: u32 = 1;
 pub const BNV_SUCCESSOR_REFUSED: u32 = 2;
 pub const BNV_NODE: u32 = 3;
@@ -188,6 +205,17 @@ extern "C" {
         path_length: usize,
     ) -> BnvShow;
 
+    fn bnv_findings(
+        words: *const u32,
+        words_length: usize,
+        lemmas: *const u32,
+        lemmas_length: usize,
+        graph: *mut u32,
+        graph_length: usize,
+        findings: *mut u32,
+        findings_length: usize,
+    ) -> BnvFindings;
+
     fn bnv_successor(
         graph: *const u32,
         graph_length: usize,
@@ -230,6 +258,18 @@ pub fn show(bytes: &[u8], words: &mut [u32], graph: &mut [u32], path: &mut [u32]
     let (g, gn) = (graph.as_mut_ptr(), graph.len());
     let (p, pn) = (path.as_mut_ptr(), path.len());
     unsafe { bnv_show(bytes.as_ptr(), bytes.len(), w, wn, g, gn, p, pn) }
+}
+
+pub fn findings(
+    words: &[u32],
+    lemmas: &[u32],
+    graph: &mut [u32],
+    findings: &mut [u32],
+) -> BnvFindings {
+    let (w, l) = (words.as_ptr(), lemmas.as_ptr());
+    let (g, gn) = (graph.as_mut_ptr(), graph.len());
+    let (f, n) = (findings.as_mut_ptr(), findings.len());
+    unsafe { bnv_findings(w, words.len(), l, lemmas.len(), g, gn, f, n) }
 }
 
 pub fn successor(
