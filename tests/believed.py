@@ -19,6 +19,7 @@ CALLS = {
     "runs": ["step"],
     "ask": ["ask"],
     "judge": ["judge"],
+    "findings": ["findings"],
     "show": ["show"],
     "streams": ["next", "answered"],
     "view": ["new", "successor", "successor_at", "successor_of"],

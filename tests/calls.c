@@ -1,5 +1,5 @@
 /* Each function of the static library, called from C on Fade; the stack that each takes; empty lists with null pointers; every lent word;
-   and the header's two macros. */
+   and the header's macros. */
 #define _XOPEN_SOURCE 700
 #include <stdio.h>
 #include <stdlib.h>
@@ -104,6 +104,24 @@ static void kinds(void)
     CHECK(BNV_KIND(0x10000000u | 0x20000005u) == 3 && BNV_PAYLOAD(0x10000002u | 0x20000005u) == 7);
     CHECK(BNV_KIND(-1) == 15 && BNV_PAYLOAD(-1) == 0x0FFFFFFF);
     CHECK(16 * BNV_KIND(0x30000000u) == 48 && 32 * BNV_PAYLOAD(0x18000001u) == 32);
+}
+
+/* The fields of a finding, in words that tell them apart. */
+static void finding_fields(void)
+{
+    static const struct {
+        uint32_t word, node, run_off, action, place, high;
+    } all[] = {
+        {0xE0000000, 0, 0, 0, 0, 0},   {0xE0080800, 1, 0, 0, 1, 0},   {0xEFF83800, 511, 0, 0, 7, 0},
+        {0xE0040001, 0, 1, 0, 0, 1},   {0xE0149000, 2, 1, 2, 2, 0},   {0xEFFFF801, 511, 1, 15, 7, 1},
+        {0xE0044000, 0, 1, 1, 0, 0},   {0xEFF80000, 511, 0, 0, 0, 0},
+    };
+    for (size_t i = 0; i < sizeof all / sizeof *all; i++) {
+        uint32_t w = all[i].word;
+        CHECK(BNV_KIND(w) == BNV_FINDING && BNV_FINDING_NODE(w) == all[i].node && BNV_FINDING_RUN_OFF(w) == all[i].run_off);
+        CHECK(BNV_FINDING_ACTION(w) == all[i].action && BNV_FINDING_PLACE(w) == all[i].place && BNV_FINDING_HIGH(w) == all[i].high);
+    }
+    CHECK(2 * BNV_FINDING_NODE(0xE0080000u | 0x00100000u) == 6 && 2 * BNV_FINDING_HIGH(1) == 2 && BNV_FINDING_ACTION(-1) == 15);
 }
 
 static void check(void)
@@ -214,6 +232,47 @@ static size_t lay(size_t from)
     return 4 * (LOGIC + LEMMAS);
 }
 
+/* Is the path list, lent as a findings list of `length` words, these words, then zeros, then what `fill` wrote? */
+static int found(const uint32_t *wanted, size_t count, size_t length)
+{
+    for (size_t i = 0; i < length; i++)
+        if (path[i] != (i < count ? wanted[i] : 0))
+            return 0;
+    return left(BNV_GRAPH_WORDS, length) && graph[0] == 0x80000000 && graph[EDGES + 1] == 0xC0000000 && graph[RECORD] == 0;
+}
+
+static void findings(void)
+{
+    static const uint32_t both_ends[] = {0xE0040000, 0xE0040001, 0xE0044000, 0xE0044001};
+    for (size_t length = 0; length < 9; length++) {
+        fill();
+        BnvFindings f = bnv_findings(fade, LOGIC, lemmas, LEMMAS, graph, BNV_GRAPH_WORDS + 8, path, length);
+        CHECK(f.answer == BNV_LISTED && f.count == 0 && f.refusal == 0 && f.value == 0 && found(NULL, 0, length));
+        fill();
+        f = bnv_findings(fade, LOGIC, NULL, 0, graph, BNV_GRAPH_WORDS, path, length);
+        if (length < 4) {
+            CHECK(f.answer == BNV_FINDINGS_REFUSED && f.refusal == BNV_REFUSED_FINDINGS && f.value == 4 && f.count == 0);
+            CHECK(found(NULL, 0, 0));
+        } else {
+            CHECK(f.answer == BNV_LISTED && f.count == 4 && f.refusal == 0 && f.value == 0 && found(both_ends, 4, length));
+        }
+    }
+    CHECK(bnv_findings(fade, LOGIC, lemmas, LEMMAS, graph, BNV_GRAPH_WORDS, NULL, 0).answer == BNV_LISTED);
+    CHECK(BNV_MOST_FINDINGS == 135168);
+}
+
+static void findings_refused(void)
+{
+    fill();
+    BnvFindings f = bnv_findings(NULL, 0, NULL, 0, graph, BNV_GRAPH_WORDS - 1, NULL, 0);
+    CHECK(f.answer == BNV_FINDINGS_REFUSED && f.refusal == BNV_REFUSED_SHORT && f.value == 0 && f.count == 0);
+    f = bnv_findings(fade, LOGIC - 1, lemmas, 1, graph, BNV_GRAPH_WORDS, NULL, 0);
+    CHECK(f.answer == BNV_FINDINGS_REFUSED && f.refusal == BNV_REFUSED_WORD && f.value == LOGIC - 1);
+    f = bnv_findings(fade, LOGIC, lemmas, LEMMAS - 1, graph, BNV_GRAPH_WORDS, path, BNV_PATH_WORDS);
+    CHECK(f.answer == BNV_FINDINGS_REFUSED && f.refusal == BNV_REFUSED_LEMMA && f.value == LEMMAS - 1);
+    CHECK(left(0, 0));
+}
+
 static int no_judge(BnvJudge j)
 {
     return j.verdict == 0 && j.node == 0 && j.place == 0 && j.variable == 0 && j.high == 0 && j.nodes == 0 && j.edges == 0 &&
@@ -302,7 +361,7 @@ static size_t taken(void (*part)(void))
 
 int main(void)
 {
-    void (*parts[])(void) = {kinds, check, action_part, step, ask, judge, judge_refused, show_refused, show};
+    void (*parts[])(void) = {kinds, finding_fields, check, action_part, step, ask, judge, judge_refused, findings_refused, findings, show_refused, show};
     size_t most = 0, last = 0;
     for (size_t i = 0; i < sizeof parts / sizeof *parts; i++) {
         last = taken(parts[i]);

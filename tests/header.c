@@ -13,6 +13,7 @@ HOLDS(sizeof(bnv_step(NULL, 0, 0, NULL, 0)) == sizeof(BnvStep) && sizeof(BnvStep
 HOLDS(sizeof(bnv_ask(NULL, 0, NULL, 0, 0)) == sizeof(BnvAsk) && sizeof(BnvAsk) == 16);
 HOLDS(sizeof(bnv_judge(NULL, 0, NULL, 0, NULL, 0, NULL, 0)) == sizeof(BnvJudge) && sizeof(BnvJudge) == 72);
 HOLDS(sizeof(bnv_show(NULL, 0, NULL, 0, NULL, 0, NULL, 0)) == sizeof(BnvShow) && sizeof(BnvShow) == 96);
+HOLDS(sizeof(bnv_findings(NULL, 0, NULL, 0, NULL, 0, NULL, 0)) == sizeof(BnvFindings) && sizeof(BnvFindings) == 24);
 HOLDS(sizeof(bnv_successor(NULL, 0, 0, 0, 0, 0)) == sizeof(BnvSuccessor) && sizeof(BnvSuccessor) == 32);
 HOLDS(offsetof(BnvCheck, refusal) == 4 && offsetof(BnvCheck, value) == 8 && offsetof(BnvShow, judged) == 24);
 

@@ -26,7 +26,7 @@ pub enum Shown {
 
 /// Puts the little-endian words of the bytes at the front of the list; how many there are. Words
 /// behind them stay.
-fn put_words(bytes: &[u8], words: &mut [u32]) -> usize {
+pub(crate) fn put_words(bytes: &[u8], words: &mut [u32]) -> usize {
     for (word, four) in words.iter_mut().zip(bytes.chunks_exact(4)) {
         *word = u32::from_le_bytes([four[0], four[1], four[2], four[3]]);
     }
@@ -35,7 +35,7 @@ fn put_words(bytes: &[u8], words: &mut [u32]) -> usize {
 
 /// How many words are logic: "the first word of kind 15 ends the logic", and belongs to it, payload
 /// or not, in place or not; "without one, all words are logic".
-fn logic_length(words: &[u32]) -> usize {
+pub(crate) fn logic_length(words: &[u32]) -> usize {
     match words.iter().position(|word| kind(*word) == END) {
         Some(end) => end + 1,
         None => words.len(),

@@ -7,6 +7,7 @@ pub mod judge;
 pub mod lemma;
 pub mod program;
 pub mod records;
+pub mod sentences;
 pub mod shows;
 pub mod words;
 

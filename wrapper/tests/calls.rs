@@ -101,6 +101,40 @@ fn judges() {
     );
 }
 
+#[test]
+fn finds() {
+    let (logic, lemmas) = FADE.split_at(LOGIC);
+    let mut graph = [7; GRAPH_WORDS];
+    let mut list = [7; 6];
+    assert_eq!(findings(logic, lemmas, &mut graph, &mut list), Ok(0));
+    assert_eq!((list, listed(&list).count()), ([0; 6], 0));
+    let run_off = |action, end| Finding::MayRunOff {
+        node: 0,
+        action,
+        variable: 0,
+        end,
+    };
+    assert_eq!(findings(logic, &[], &mut graph, &mut list), Ok(4));
+    let ends = [(0, End::Low), (0, End::High), (1, End::Low), (1, End::High)];
+    assert!(listed(&list).eq(ends.map(|(action, end)| run_off(action, end))));
+    assert_eq!(list[4..], [0, 0]);
+    assert_eq!(origin(&graph, 2, 0), None);
+    list = [7; 6];
+    let short = &mut list[..3];
+    assert_eq!(
+        findings(logic, &[], &mut graph, short),
+        Err(Refusal::Findings(4))
+    );
+    assert_eq!(list, [7; 6]);
+    assert_eq!(
+        findings(logic, &[], &mut graph[1..], &mut list),
+        Err(Refusal::Short(0))
+    );
+    let all = &mut vec![7; MOST_FINDINGS];
+    assert_eq!(findings(logic, &[], &mut graph, all), Ok(4));
+    assert!(all[4..].iter().all(|w| *w == 0));
+}
+
 /// Lent lists, longer than they need be, with words that a call has to write over or leave.
 struct Lists {
     words: Vec<u32>,

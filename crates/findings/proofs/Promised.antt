@@ -60,7 +60,7 @@ module _ (ws lemmas gl fl : List ℕ) where
             (record { answer = All (length fs); graph = gl′; list = map findingWord fs ++ replicate (length fl - length fs) 0 }))
         go true e = (
           λ n same. let d : length fs ≡ n = cc same in
-              of-read k _ (g, k .drawn, map findingWord fs, is-sheet, length-map fs findingWord ∙ d, omega (arith, ltb-true (length fl) (length fs) e, d), omega (arith, findings-few p (k .good) ls g (k .drawn .few), d)),
+              of-read k _ (g, k .drawn, (map findingWord fs, is-sheet, length-map fs findingWord ∙ d, omega (arith, ltb-true (length fl) (length fs) e, d), omega (arith, findings-few p (k .good) ls g (k .drawn .few), d))),
           other (Findings (length fs)) (λ z. omega arith),
         )
         go false e = of-read k _ (g, k .drawn, rw (take-at (map findingWord fs) (replicate (length fl - length fs) 0) (length fs) (length-map fs findingWord)) is-sheet)

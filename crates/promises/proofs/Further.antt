@@ -4,25 +4,32 @@
 --   show::show(bytes, words, g, p)      r, g and p at exit are those of show bytes words g p; words at exit are wordsLeft r bytes words;
 --                                       r ≡ Answered l m (Safe n e) → SafeShow bytes                                crates/show/src/lib.rt
 --   exports::bnv_show(..)               the same, r as the record of numbers showOf; no call's answer is 0          crates/exports/src/lib.rt
+--   findings::findings(ws, ls, g, f)    r, g and f at exit are those of listing ws ls g f; SheetOf of r and both lists; r ≡ All 0 → SafeOf (read ws);
+--                                       Agrees with Judge's answer, and g at exit is Judge's                        crates/findings/src/lib.rt
+--   exports::bnv_findings(..)           the same, r as the record of numbers findingsOf                             crates/exports/src/lib.rt
 --   streams::next(way, room, at, a)     r ≡ next way room at a                                                      crates/streams/src/lib.rt
 use mathlib.Core.Path.{_≡_}
 use mathlib.Core.Bool.{true, false}
 use mathlib.Core.Logic.{_⊎_, _↔_}
-use mathlib.Core.List.{List, _∷_, _++_, List·Memᴰ}
-use Prim.Native.Nat.{ℕ, _+_, _%_, _≤_, _<_}
+use mathlib.Core.List.{List, _∷_, _++_, map, List·Memᴰ}
+use Prim.Native.Nat.{ℕ, _+_, _%_, _^_, _≤_, _<_}
 use lib.IntN.{ℤ, pos}
 use lib.ListN.{length, getD}
+use Rattle.words.specs.Words.{kindOf, FINDING}
+use Rattle.words.specs.Limits.{mostNodes, mostFindings}
 use Rattle.words.specs.LiteralSets.{Literal, B, NotB, predicateOf, literalsIn}
 use Rattle.rows.specs.declared.Row.{Row}
 use Rattle.rows.specs.Rows.{rowValue}
 use Rattle.grammar.specs.Programs.{Assignment, Program}
+use Rattle.grammar.specs.WellFormed.{WellFormed}
 use Rattle.lemmas.specs.Lemmas.{HoldsAfter, FailsAfter, Lemma}
 use Rattle.lemmas.specs.LemmaGrammar.{setsVariable}
 use Rattle.frame.specs.Frame.{zeroOn, untouched}
 use Rattle.formula.specs.Formula.{False, And, Disabled, Then, follows}
-use Rattle.search.specs.Search.{Graph}
+use Rattle.search.specs.Search.{Graph, count}
 use Rattle.abstraction.specs.Abstraction.{among, shown, successor, graph}
-use Rattle.verdict.specs.Verdicts.{findings}
+use Rattle.verdict.specs.Verdicts.{Finding, findings}
+use Rattle.sheet.specs.Sheets.{findingWord, Fits, Due, Sheet}
 use Rattle.judge.specs.declared.Judged.the-variants.{Safe as IsSafe}
 use Rattle.little.specs.LittleEndian.{bytesOf, Below}
 use Rattle.show.specs.declared.Shown.the-variants.{Answered}
@@ -82,3 +89,23 @@ pub needless-lemma : (p : Program) (xs ys : List Lemma) (l : Lemma) (m : Literal
     → (graph p (xs ++ (l ∷ ys)) ≡ graph p (xs ++ ys)) × ((g : Graph) → findings p (xs ++ (l ∷ ys)) g ≡ findings p (xs ++ ys) g)
 needless-lemma p xs ys l m says free own =
     (Rattle.abstraction.proofs.Needless.graph-same p xs ys l m says free own, Rattle.verdict.proofs.Needless.findings-same p xs ys l m says free own)
+
+-- ---- request 2: every finding on the sheet
+-- a finding is among those of a graph exactly if the request's sentence says so
+pub findings-due : (p : Program) (ls : List Lemma) (g : Graph) (f : Finding) → List·Memᴰ f (findings p ls g) ↔ Due p ls g f
+findings-due = Rattle.sheet.proofs.Dues.findings-are
+
+-- under the limits the word of a finding has 32 bits and its kind, and loses nothing
+pub finding-word : (f : Finding) → Fits f → (findingWord f < 2 ^ 32) × (kindOf (findingWord f) ≡ FINDING) × ((f′ : Finding) → Fits f′ → findingWord f ≡ findingWord f′ → f ≡ f′)
+finding-word f h = (Rattle.sheet.proofs.Fields.word-small f h, Rattle.sheet.proofs.Fields.word-kind f h, λ f′. Rattle.sheet.proofs.Fields.word-tells f f′ h)
+
+-- the words of a graph's findings are its sheet, and it has one sheet only: what is due and the order fix the list, word for word
+pub sheet : (p : Program) → WellFormed p → (ls : List Lemma) (g : Graph) → count g ≤ mostNodes → Sheet p ls g (map findingWord (findings p ls g))
+sheet = Rattle.sheet.proofs.Sheet.sheet
+
+pub sheet-unique : (p : Program) (ls : List Lemma) (g : Graph) (xs ys : List ℕ) → Sheet p ls g xs → Sheet p ls g ys → xs ≡ ys
+sheet-unique p ls g = Rattle.sheet.proofs.Sheet.sheet-unique
+
+-- there are at most 135,168
+pub findings-few : (p : Program) → WellFormed p → (ls : List Lemma) (g : Graph) → count g ≤ mostNodes → length (findings p ls g) ≤ mostFindings
+findings-few = Rattle.sheet.proofs.Most.findings-few

@@ -19,8 +19,7 @@ use Rattle.lemmas.specs.LemmaGrammar.{setsVariable}
 use Rattle.lemmas.proofs.LemmaLaws.{sets-known, action-rising}
 use Rattle.search.specs.Search.{Graph, count}
 use Rattle.verdict.specs.Verdicts.{Finding, Forbid, RunOff, unless, ends, findings}
-use Rattle.sheet.specs.Sheets.{endGoal, Due}
-use Rattle.sheet.proofs.Fields.{Fits}
+use Rattle.sheet.specs.Sheets.{Fits, endGoal, Due}
 use Rattle.sheet.proofs.Pieces.{in-pieces, combinationsAt, actionsAt, findings-pieces}
 
 module _ (f : Finding) where

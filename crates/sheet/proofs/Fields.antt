@@ -6,12 +6,7 @@ use native.Mathlib.Omega.{arith}
 use lib.Dec.{eqb}
 use Rattle.words.specs.Words.{bits, kindOf, FINDING}
 use Rattle.verdict.specs.Verdicts.{Finding, Forbid, RunOff}
-use Rattle.sheet.specs.Sheets.{findingWord}
-
--- a finding's numbers fit their fields
-abbrev pub Fits : Finding → Type 0
-Fits (Forbid k b) = (k < 512) × (b < 8)
-Fits (RunOff k j v high) = (k < 512) × (j < 16) × (v < 8)
+use Rattle.sheet.specs.Sheets.{findingWord, Fits}
 
 -- the finding that a word's fields tell
 readBack : ℕ → Finding

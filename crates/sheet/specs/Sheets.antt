@@ -1,6 +1,7 @@
 -- Request 2: the findings of a graph as words of kind 14, and what its sentence says of them.
 --
 -- findingWord — the word of a finding
+-- Fits        — the numbers of a finding under the limits
 -- endGoal     — what shows an end of a range: the low one, the high one
 -- Due         — the request's sentence: each node with each combination it doesn't contradict, and each node, action that has a successor there,
 --               variable it sets and end without an applying lemma
@@ -12,6 +13,7 @@ use mathlib.Core.List.{List, [], _∷_, List·Memᴰ}
 use Prim.Native.Nat.{ℕ, _+_, _*_, _^_, _<_}
 use lib.ListN.{length, getD}
 use Rattle.words.specs.Words.{word, noLiterals, FINDING}
+use Rattle.words.specs.Limits.{mostNodes, mostForbidden, mostActions, mostVariables}
 use Rattle.words.specs.LiteralSets.{literalsIn}
 use Rattle.grammar.specs.Programs.{Program}
 use Rattle.grammar.specs.WellFormed.{Each}
@@ -27,6 +29,10 @@ use Rattle.verdict.specs.Verdicts.{Finding, Forbid, RunOff, contradicted, hasNe
 abbrev pub findingWord : Finding → ℕ
 findingWord (Forbid k b) = word FINDING (k * 2 ^ 19 + b * 2 ^ 11)
 findingWord (RunOff k j v high) = word FINDING (k * 2 ^ 19 + 2 ^ 18 + j * 2 ^ 14 + v * 2 ^ 11 + cond high 1 0)
+
+abbrev pub Fits : Finding → Type 0
+Fits (Forbid k b) = (k < mostNodes) × (b < mostForbidden)
+Fits (RunOff k j v high) = (k < mostNodes) × (j < mostActions) × (v < mostVariables)
 
 abbrev pub endGoal : Bool → Goal
 endGoal false = NotBelow

@@ -1,9 +1,11 @@
-// Test vectors of Ask and Judge. Standard input is little-endian words: for each vector a count of words, and as many words: the call (3 Ask,
-// 4 Judge), a number k, the counts of program words and lemma words, the lengths of the lent graph and path lists, the program, the lemmas.
-// Each vector has one line on standard output; Judge's ends with a digest of each lent list. Input that breaks off inside a vector ends the run there.
+// Test vectors of Ask, Judge and Findings. Standard input is little-endian words: for each vector a count of words, and as many words: the call
+// (3 Ask, 4 Judge, 5 Findings), a number k, the counts of program words and lemma words, the lengths of the lent graph list and of the path or
+// findings list, the program, the lemmas. Each vector has one line on standard output; those of Judge and Findings end with a digest of each lent
+// list. Input that breaks off inside a vector ends the run there.
 ghost use Prim.Native.Nat.{_+_, _*_, _<_, _≤_, _^_};
 ghost use lib.ListN.{length};
 use ask::Asked;
+use findings::Listed;
 use judge::Judged;
 use words::Refusal;
 
@@ -114,27 +116,50 @@ fn digest(list: &[u32]) -> u64 {
     h
 }
 
-// Judge, and the lent lists at exit.
-fn with_lists(program: &[u32], lemmas: &[u32], graph: &mut [u32], path: &mut [u32])
+fn listed(l: Listed) {
+    match l {
+        Listed::All(n) => {
+            io::write_all(1, b"FINDINGS");
+            number(n);
+        }
+        Listed::Refused(r) => refused(r),
+    }
+}
+
+// Judge, or Findings with what is else the path list.
+fn answer(call: u32, program: &[u32], lemmas: &[u32], graph: &mut [u32], path: &mut [u32]) {
+    if call == 4 {
+        judged(judge::judge(program, lemmas, &mut *graph, &mut *path));
+    } else {
+        listed(findings::findings(program, lemmas, &mut *graph, &mut *path));
+    }
+}
+
+// The answer, and the lent lists at exit.
+fn with_lists(call: u32, program: &[u32], lemmas: &[u32], graph: &mut [u32], path: &mut [u32])
     requires { ⌜ (length (now graph) ≤ 16384) × (length (now path) ≤ 16384) ⌝ }
 {
     fill(&mut *graph, 0xA500_0000);
     fill(&mut *path, 0x5A00_0000);
-    let j = judge::judge(program, lemmas, &mut *graph, &mut *path);
-    judged(j);
+    answer(call, program, lemmas, &mut *graph, &mut *path);
     io::write_all(1, b" GRAPH ");
     io::print_decimal(1, digest(&graph[..]));
-    io::write_all(1, b" PATH ");
+    if call == 4 {
+        io::write_all(1, b" PATH ");
+    } else {
+        io::write_all(1, b" LIST ");
+    }
     io::print_decimal(1, digest(&path[..]));
 }
 
-// Judge, with lent lists of these lengths.
-fn judge_with(program: &[u32], lemmas: &[u32], graph_words: usize, path_words: usize) {
+// The answer, with lent lists of these lengths.
+fn answer_with(call: u32, program: &[u32], lemmas: &[u32], graph_words: usize, path_words: usize) {
     if graph_words <= 16384 {
         if path_words <= 16384 {
             let mut graph = little::space();
             let mut path = little::space();
             with_lists(
+                call,
                 program,
                 lemmas,
                 &mut graph[..graph_words],
@@ -155,7 +180,8 @@ fn line(
 ) {
     match call {
         3 => asked(ask::ask(program, lemmas, k)),
-        4 => judge_with(program, lemmas, graph_words, path_words),
+        4 => answer_with(4, program, lemmas, graph_words, path_words),
+        5 => answer_with(5, program, lemmas, graph_words, path_words),
         _ => {
             io::write_all(1, b"NO SUCH CALL");
         }

@@ -1,4 +1,5 @@
 pub mod Starts
 pub mod Zeros
 pub mod Table
+pub mod Sheets
 pub mod Line

@@ -4,8 +4,8 @@ use mathlib.Core.Path.{sym}
 use native.Mathlib.Omega.{arith}
 use lib.Seq.{length-take-le}
 use borrow.Author.Needs.{needs}
-use Rattle.verdicts.proofs.judge_with.Statement.{statement}
-use Rattle.verdicts.proofs.judge_with.Tie as tie
+use Rattle.verdicts.proofs.answer_with.Statement.{statement}
+use Rattle.verdicts.proofs.answer_with.Tie as tie
 
 space-requires : tie.Need-space-requires
 space-requires c κs = search needs
@@ -39,8 +39,8 @@ returns-2 c = search needs
 returns-3 : tie.Need-returns-3
 returns-3 c = search needs
 
-pub judge-with-spec : {M : Type 1} → statement M
-judge-with-spec =
+pub answer-with-spec : {M : Type 1} → statement M
+answer-with-spec =
     tie.close
     (tie.spec
     space-requires
