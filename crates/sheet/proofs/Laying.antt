@@ -8,12 +8,12 @@
 use mathlib.Core.Path.{_≡_, refl, sym, ap, _∙_}
 use mathlib.Core.Bool.{Bool, true, false, cond, not}
 use mathlib.Core.Logic.{⊎-elim}
-use mathlib.Core.List.{List, [], _∷_, _++_, map, append-nil}
+use mathlib.Core.List.{List, [], _∷_, _++_, map, append-nil, map-append}
 use Prim.Native.Nat.{ℕ, suc, _+_, _-_, _%_, _<_, _≤_}
 use native.Mathlib.Omega.{arith}
 use native.Mathlib.Numerals.{add-one}
 use lib.Dec.{eqb}
-use lib.ListN.{length, getD, drop, drop-of-length-le, length-append, set}
+use lib.ListN.{length, getD, drop, drop-of-length-le, length-append, length-map, set}
 use lib.Seq.{sets, length-sets, drop-cons}
 use borrow.Author.Tests.{eq-eqb, ne-eqb}
 use Rattle.words.specs.Words.{noLiterals}
@@ -33,14 +33,6 @@ use Rattle.sheet.specs.Laying.{Laid, endAt, free, missed, offs}
 sets-append : (l : List ℕ) (i : ℕ) (xs ys : List ℕ) → sets l i (xs ++ ys) ≡ sets (sets l i xs) (i + length xs) ys
 sets-append l i [] ys = let e : i + 0 ≡ i = omega arith in rw e refl
 sets-append l i (x ∷ xs) ys = let e : i + suc (length xs) ≡ suc i + length xs = omega arith in rw e (sets-append (set l i x) (suc i) xs ys)
-
-map-append : (xs ys : List Finding) → map findingWord (xs ++ ys) ≡ map findingWord xs ++ map findingWord ys
-map-append [] ys = refl
-map-append (x ∷ xs) ys = ap (λ (ws : List ℕ). findingWord x ∷ ws) (map-append xs ys)
-
-length-words : (xs : List Finding) → length (map findingWord xs) ≡ length xs
-length-words [] = refl
-length-words (x ∷ xs) = ap suc (length-words xs)
 
 -- the last bit of a place as a number
 pub low-bit : (n : ℕ) → cond (eqb (n % 2) 1) 1 0 ≡ n % 2
@@ -76,8 +68,8 @@ module _ {fs : List Finding} {l₀ : List ℕ} {i₀ : ℕ} {l : List ℕ} {i : 
       record {
         places = omega (arith, h .places, d .places, length-append xs rest);
         words =
-            rw (d .places, d .words) (sym (sets-append l i (map findingWord xs) (map findingWord rest) ∙ ap (λ (n : ℕ). sets (sets l i (map findingWord xs)) (i + n) (map findingWord rest)) (length-words xs))
-            ∙ ap (sets l i) (sym (map-append xs rest)) ∙ h .words);
+            rw (d .places, d .words) (sym (sets-append l i (map findingWord xs) (map findingWord rest) ∙ ap (λ (n : ℕ). sets (sets l i (map findingWord xs)) (i + n) (map findingWord rest)) (length-map xs findingWord))
+            ∙ ap (sets l i) (sym (map-append findingWord xs rest)) ∙ h .words);
       }
 
 pub laid-both : (xs ys : List Finding) {l l′ l″ : List ℕ} {i i′ i″ : ℕ} → Laid xs l i l′ i′ → Laid ys l′ i′ l″ i″ → Laid (xs ++ ys) l i l″ i″

@@ -1,0 +1,141 @@
+//! The companion, a program for people: `bulanevior COMMAND [--] [FILE]`. Whatever it says of a show comes from the proved calls;
+//! it only puts it into words.
+//!
+//! The exit status: 0 safe; 1 findings; 3 the show is refused, cut or too long; 2 trouble, and there is no answer.
+
+mod file;
+mod findings;
+mod output;
+
+use file::Source;
+use output::{Said, Status};
+use std::ffi::OsString;
+use std::io::IsTerminal;
+use std::process::ExitCode;
+
+/// What the program does with the bytes of a show. One more is an entry more in `COMMANDS`.
+struct Command {
+    name: &'static str,
+    prints: &'static str,
+    /// What is said of the bytes of a show file, or the trouble.
+    run: fn(&[u8]) -> Result<Said, String>,
+}
+
+const COMMANDS: &[Command] = &[Command {
+    name: "findings",
+    prints: "all findings, one line each, with the actions that lead there",
+    run: findings::run,
+}];
+
+/// What the arguments ask for.
+enum Wanted {
+    Help,
+    Version,
+    Answer(&'static Command, Source),
+}
+
+/// None where they are not to be understood. `terminal`: is standard input one?
+fn wanted(arguments: &[OsString], terminal: bool) -> Option<Wanted> {
+    let (first, rest) = arguments.split_first()?;
+    match (first.to_str()?, rest) {
+        ("help" | "--help", []) => Some(Wanted::Help),
+        ("--version", []) => Some(Wanted::Version),
+        (name, rest) => {
+            let command = COMMANDS.iter().find(|command| command.name == name)?;
+            Some(Wanted::Answer(command, file::source(rest, terminal)?))
+        }
+    }
+}
+
+fn usage() -> String {
+    let commands: String = COMMANDS
+        .iter()
+        .map(|command| format!("  {:<11}{}\n", command.name, command.prints))
+        .collect();
+    format!(
+        "Usage: bulanevior COMMAND [--] [FILE]
+Says in words what the proved calls answer for the show in FILE; on standard input without FILE, or for -.
+{commands}  help       this text, as --help, and --version the version: each alone
+Status: 0  safe
+        1  findings
+        2  trouble: no answer, and the reason on standard error
+        3  the show is refused, cut or too long"
+    )
+}
+
+/// What is to be printed, or the trouble.
+fn said(wanted: Wanted) -> Result<Said, String> {
+    match wanted {
+        Wanted::Help => Ok(Said::line(usage(), Status::Good)),
+        Wanted::Version => {
+            let version = concat!("bulanevior ", env!("CARGO_PKG_VERSION"));
+            Ok(Said::line(version.to_string(), Status::Good))
+        }
+        Wanted::Answer(command, source) => (command.run)(&file::read(&source)?),
+    }
+}
+
+fn main() -> ExitCode {
+    output::close_again();
+    let arguments: Vec<OsString> = std::env::args_os().skip(1).collect();
+    let status = match wanted(&arguments, std::io::stdin().is_terminal()) {
+        Some(wanted) => said(wanted)
+            .and_then(output::print)
+            .unwrap_or_else(|trouble| output::complain(&format!("bulanevior: {trouble}"))),
+        None => output::complain(&usage()),
+    };
+    ExitCode::from(status as u8)
+}
+
+#[cfg(test)]
+mod tests {
+    use super::*;
+
+    fn asked(line: &str) -> Option<Wanted> {
+        let arguments: Vec<OsString> = line.split_whitespace().map(OsString::from).collect();
+        wanted(&arguments, false)
+    }
+
+    #[test]
+    fn arguments_are_understood_or_not() {
+        assert!(matches!(asked("help"), Some(Wanted::Help)));
+        assert!(matches!(asked("--help"), Some(Wanted::Help)));
+        assert!(matches!(asked("--version"), Some(Wanted::Version)));
+        for command in COMMANDS {
+            for rest in ["", "-", "--", "a.words", "-- a.words"] {
+                let Some(Wanted::Answer(found, _)) = asked(&format!("{} {rest}", command.name))
+                else {
+                    panic!("{} {rest}", command.name);
+                };
+                assert_eq!(found.name, command.name);
+            }
+        }
+        for line in [
+            "",
+            "-",
+            "--",
+            "a.words",
+            "finding",
+            "Findings",
+            "--findings",
+        ] {
+            assert!(asked(line).is_none(), "{line}");
+        }
+        for line in [
+            "help findings",
+            "--help -",
+            "--version -",
+            "findings --help",
+            "findings a b",
+        ] {
+            assert!(asked(line).is_none(), "{line}");
+        }
+    }
+
+    #[test]
+    fn the_usage_names_every_command() {
+        for command in COMMANDS {
+            assert!(usage().contains(&format!("\n  {} ", command.name)));
+        }
+    }
+}

@@ -1,0 +1,91 @@
+//! What is printed, and trouble with standard output: a verdict that did not go out whole is none.
+use std::fs::File;
+use std::io::Write;
+use std::os::fd::AsFd;
+use std::sync::atomic::{AtomicBool, Ordering};
+
+/// The exit status.
+#[derive(Clone, Copy, Debug, PartialEq, Eq)]
+#[repr(u8)]
+pub enum Status {
+    /// The show is safe; or no show was asked about.
+    Good = 0,
+    Findings = 1,
+    Trouble = 2,
+    Refused = 3,
+}
+
+/// What is to be printed, in lines without their newlines, and the exit status that goes with it.
+pub struct Said {
+    pub lines: Box<dyn Iterator<Item = String>>,
+    pub status: Status,
+}
+
+impl Said {
+    pub fn line(line: String, status: Status) -> Said {
+        let lines = Box::new(std::iter::once(line));
+        Said { lines, status }
+    }
+}
+
+/// How many bytes are gathered before they are written.
+const PIECE: usize = 1 << 16;
+
+/// Prints all lines, and gives the status; or the trouble.
+pub fn print(said: Said) -> Result<Status, String> {
+    match write(said.lines) {
+        Ok(()) => Ok(said.status),
+        Err(e) => Err(format!("cannot write to standard output: {e}")),
+    }
+}
+
+/// Through a file: the runtime's own standard output takes one that is not open for writing for a success. Behind a write that
+/// failed there is no other.
+fn write(lines: impl Iterator<Item = String>) -> std::io::Result<()> {
+    let mut out = File::from(std::io::stdout().as_fd().try_clone_to_owned()?);
+    let mut piece = String::new();
+    for line in lines {
+        piece.push_str(&line);
+        piece.push('\n');
+        if piece.len() >= PIECE {
+            out.write_all(piece.as_bytes())?;
+            piece.clear();
+        }
+    }
+    out.write_all(piece.as_bytes())
+}
+
+/// Says on standard error, if it can be said there, why there is no answer.
+pub fn complain(why: &str) -> Status {
+    let _ = writeln!(std::io::stderr(), "{why}");
+    Status::Trouble
+}
+
+/// Which of standard input and output were closed when the program began? The runtime opens /dev/null in their place before
+/// `main`: standard input would be an empty show and what is printed would be lost, both without an error. So this is looked at
+/// before that, and `close_again` closes them.
+static CLOSED: [AtomicBool; 2] = [AtomicBool::new(false), AtomicBool::new(false)];
+
+extern "C" {
+    fn fcntl(file: i32, command: i32, ...) -> i32;
+    fn close(file: i32) -> i32;
+}
+
+extern "C" fn look() {
+    const GET_FLAGS: i32 = 3;
+    for (file, closed) in (0..).zip(&CLOSED) {
+        closed.store(unsafe { fcntl(file, GET_FLAGS) } < 0, Ordering::Relaxed);
+    }
+}
+
+#[used]
+#[link_section = ".init_array"]
+static LOOK: extern "C" fn() = look;
+
+pub fn close_again() {
+    for (file, closed) in (0..).zip(&CLOSED) {
+        if closed.load(Ordering::Relaxed) {
+            unsafe { close(file) };
+        }
+    }
+}
