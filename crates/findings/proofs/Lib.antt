@@ -1,3 +1,4 @@
 pub mod Listing
 pub mod Promised
 pub mod Whole
+pub mod Missed

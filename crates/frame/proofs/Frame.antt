@@ -82,7 +82,7 @@ frame ss r s t z agree = ap (λ (x : ℤ). x +ℤ r .constant) (dot-same (r .coe
     go v false e = inr (agree v e)
 
 -- ---- the state after an action agrees with the one before on every variable that the action does not set
-unset-kept : (ss : List Assignment) (s : List ℤ) (v : ℕ) → setsVariable ss v ≡ false → newValue ss s v ≡ getD s v (pos 0)
+pub unset-kept : (ss : List Assignment) (s : List ℤ) (v : ℕ) → setsVariable ss v ≡ false → newValue ss s v ≡ getD s v (pos 0)
 unfolding setsVariable newValue
 unset-kept [] s v e = refl
 unset-kept (x ∷ ss) s v e = go (eqb (x .variable) v) (unset-kept ss s v) e

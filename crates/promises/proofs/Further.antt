@@ -21,15 +21,17 @@ use Rattle.words.specs.LiteralSets.{Literal, B, NotB, predicateOf, literalsIn}
 use Rattle.rows.specs.declared.Row.{Row}
 use Rattle.rows.specs.Rows.{rowValue}
 use Rattle.grammar.specs.Programs.{Assignment, Program}
-use Rattle.grammar.specs.WellFormed.{WellFormed}
+use Rattle.grammar.specs.WellFormed.{Each, WellFormed}
 use Rattle.lemmas.specs.Lemmas.{HoldsAfter, FailsAfter, Lemma}
-use Rattle.lemmas.specs.LemmaGrammar.{setsVariable}
+use Rattle.runs.specs.Runs.{Start, run}
+use Rattle.lemmas.specs.LemmaGrammar.{LemmaOk, setsVariable}
 use Rattle.frame.specs.Frame.{zeroOn, untouched}
 use Rattle.formula.specs.Formula.{False, And, Disabled, Then, follows}
 use Rattle.search.specs.Search.{Graph, count}
 use Rattle.abstraction.specs.Abstraction.{among, shown, successor, graph}
+use Rattle.abstraction.specs.Faithful.{Faithful}
 use Rattle.verdict.specs.Verdicts.{Finding, findings}
-use Rattle.sheet.specs.Sheets.{findingWord, Fits, Due, Sheet}
+use Rattle.sheet.specs.Sheets.{findingWord, Fits, Due, Sheet, Told}
 use Rattle.judge.specs.declared.Judged.the-variants.{Safe as IsSafe}
 use Rattle.little.specs.LittleEndian.{bytesOf, Below}
 use Rattle.show.specs.declared.Shown.the-variants.{Answered}
@@ -109,3 +111,8 @@ sheet-unique p ls g = Rattle.sheet.proofs.Sheet.sheet-unique
 -- there are at most 135,168
 pub findings-few : (p : Program) → WellFormed p → (ls : List Lemma) (g : Graph) → count g ≤ mostNodes → length (findings p ls g) ≤ mostFindings
 findings-few = Rattle.sheet.proofs.Most.findings-few
+
+-- nothing is missed: at every state of every run from a start state, each combination that it meets and each end by which an action runs off is due
+pub nothing-missed : (p : Program) → WellFormed p → (ls : List Lemma) → Each (LemmaOk p) ls → (g : Graph) → Faithful p ls g → (s : List ℤ) → Start p s
+    → (ks : List ℕ) → Each (λ k. k < length (p .actions)) ks → Each (Told p ls g) (run p ks s .states)
+nothing-missed = Rattle.findings.proofs.Missed.nothing-missed

@@ -28,20 +28,20 @@ use Rattle.safety.proofs.NoFinding.{Ends, not-forbidden, ends-shown}
 use Rattle.safety.proofs.Ranges.{On, stays-inside}
 
 -- the state lies in the ranges, and the literals of a stored node are true there
-record Known (p : Program) (g : Graph) (s : List ℤ) : Type 0 where
-  inside : Inside p s
-  node : ℕ
-  stored : node < count g
-  described : Each (TrueAt p s) (literalsAt g node)
+pub record Known (p : Program) (g : Graph) (s : List ℤ) : Type 0 where
+  pub inside : Inside p s
+  pub node : ℕ
+  pub stored : node < count g
+  pub described : Each (TrueAt p s) (literalsAt g node)
 
 -- formula (3) gives a successor, and its literals, which are true, are a stored node's
-record Next (p : Program) (g : Graph) (t : List ℤ) (f : Monomial) : Type 0 where
-  linked : hasNext f ≡ true
-  node : ℕ
-  stored : node < count g
-  described : Each (TrueAt p t) (literalsAt g node)
+pub record Next (p : Program) (g : Graph) (t : List ℤ) (f : Monomial) : Type 0 where
+  pub linked : hasNext f ≡ true
+  pub node : ℕ
+  pub stored : node < count g
+  pub described : Each (TrueAt p t) (literalsAt g node)
 
-next : (p : Program) (g : Graph) (t : List ℤ) (f : Monomial) (e : Answer) → Describes p t f → Leads g f e → Next p g t f
+pub next : (p : Program) (g : Graph) (t : List ℤ) (f : Monomial) (e : Answer) → Describes p t f → Leads g f e → Next p g t f
 next p g t False e d l = absurd d
 next p g t (And m) (To i) d l = record { linked = refl; node = i; stored = l .0; described = rw (l .1) d }
 next p g t (And m) None d l = absurd l
@@ -56,11 +56,11 @@ module _ (p : Program) (ok : WellFormed p) where
   start-keeps : (s : List ℤ) → newState (actionOf p START) s ≡ s
   start-keeps s = rw (List·getD-eq-default (p .actions) noneAction {n = START} (omega (arith, ok .actions .few))) (none-set s)
 
-  action-happens : (s : List ℤ) (j : ℕ) → j < length (p .actions) → enabled (actionOf p j) s ≡ true → happens p j s ≡ true
+  pub action-happens : (s : List ℤ) (j : ℕ) → j < length (p .actions) → enabled (actionOf p j) s ≡ true → happens p j s ≡ true
   action-happens s j l h = rw (ne-eqb j START (λ e. omega (arith, ok .actions .few))) h
 
   module _ (ls : List Lemma) (good : Each (LemmaOk p) ls) (g : Graph) (faithful : Faithful p ls g) where
-    known-start : (s : List ℤ) → Start p s → Known p g s
+    pub known-start : (s : List ℤ) → Start p s → Known p g s
     known-start s h = go (start p ls) refl (rw (start-keeps s) at (successor-true p ok s (h .inside) START (h .meets) [] tt ls good))
       where
         go : (f : Monomial) → start p ls ≡ f → Describes p s f → Known p g s

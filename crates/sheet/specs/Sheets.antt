@@ -6,18 +6,20 @@
 -- Due         — the request's sentence: each node with each combination it doesn't contradict, and each node, action that has a successor there,
 --               variable it sets and end without an applying lemma
 -- Rises       — each word is below all that follow
+-- Told        — of a state: each combination that it meets is due at some node, and so is the end by which an action runs off there
 -- Sheet       — words of a graph's findings: all that are due and no others, each once and in judging order, and each word tells which finding it is
 use mathlib.Core.Path.{_≡_}
 use mathlib.Core.Bool.{Bool, true, false, cond}
 use mathlib.Core.List.{List, [], _∷_, List·Memᴰ}
 use Prim.Native.Nat.{ℕ, _+_, _*_, _^_, _<_}
+use lib.IntN.{ℤ}
 use lib.ListN.{length, getD}
 use Rattle.words.specs.Words.{word, noLiterals, FINDING}
 use Rattle.words.specs.Limits.{mostNodes, mostForbidden, mostActions, mostVariables}
 use Rattle.words.specs.LiteralSets.{literalsIn}
 use Rattle.grammar.specs.Programs.{Program}
 use Rattle.grammar.specs.WellFormed.{Each}
-use Rattle.runs.specs.Runs.{actionOf}
+use Rattle.runs.specs.Runs.{RunsOff, actionOf, step, meets}
 use Rattle.lemmas.specs.Lemmas.{Goal, NotBelow, NotAbove, Lemma}
 use Rattle.lemmas.specs.LemmaGrammar.{setsVariable}
 use Rattle.search.specs.Search.{Graph, count}
@@ -54,3 +56,7 @@ pub record Sheet (p : Program) (ls : List Lemma) (g : Graph) (ws : List ℕ) : T
   pub all : (f : Finding) → Due p ls g f → List·Memᴰ (findingWord f) ws
   pub only : (w : ℕ) → List·Memᴰ w ws → (f : Finding) × Due p ls g f × (w ≡ findingWord f) × ((f′ : Finding) → Due p ls g f′ → w ≡ findingWord f′ → f′ ≡ f)
   pub order : Rises ws
+
+pub record Told (p : Program) (ls : List Lemma) (g : Graph) (s : List ℤ) : Type 0 where
+  pub combinations : (b : ℕ) → b < length (p .forbidden) → meets p (getD (p .forbidden) b noLiterals) s ≡ true → (k : ℕ) × Due p ls g (Forbid k b)
+  pub run-offs : (j v : ℕ) → j < length (p .actions) → step p j s ≡ RunsOff v → (k : ℕ) × (high : Bool) × Due p ls g (RunOff k j v high)
