@@ -13,6 +13,8 @@ use inputs::Show;
 use std::hint::black_box;
 
 const ROUNDS: u32 = 40;
+/// The words of the findings list; the shows are safe and have none.
+const FINDINGS: usize = 512;
 
 /// The processor time of this thread, in seconds.
 fn now() -> f64 {
@@ -57,6 +59,13 @@ fn times(span: f64, mut library: impl FnMut(), mut other: impl FnMut()) -> (f64,
 struct Lists {
     graph: Vec<u32>,
     path: Vec<u32>,
+    findings: Vec<u32>,
+}
+
+impl Lists {
+    fn new() -> Lists {
+        Lists { graph: vec![0; GRAPH_WORDS], path: vec![0; PATH_WORDS], findings: vec![0; FINDINGS] }
+    }
 }
 
 struct Table {
@@ -64,37 +73,37 @@ struct Table {
     span: f64,
     lists: Lists,
     /// Library time of the row before, per call.
-    before: [Option<f64>; 4],
+    before: [Option<f64>; 5],
 }
 
 impl Table {
     fn head() {
         println!(
-            "{:<42} {:<6} {:>11} {:>11} {:>6} {:>7}",
+            "{:<42} {:<8} {:>11} {:>11} {:>6} {:>7}",
             "input", "call", "library us", "other us", "ratio", "growth"
         );
     }
 
     fn cell(&mut self, row: &str, call: usize, (library, other): (f64, f64), growth: bool) {
-        let name = ["check", "step", "ask", "judge"][call];
+        let name = ["check", "step", "ask", "judge", "findings"][call];
         let grown = match self.before[call] {
             Some(before) if growth => format!("{:.2}", library / before),
             _ => "-".to_string(),
         };
-        println!("{row:<42} {name:<6} {library:>11.2} {other:>11.2} {:>6.2} {grown:>7}", library / other);
+        println!("{row:<42} {name:<8} {library:>11.2} {other:>11.2} {:>6.2} {grown:>7}", library / other);
         self.before[call] = Some(library);
     }
 
     fn judge(&mut self, show: &Show) -> (f64, f64) {
         // Both sides must agree on the input before they are timed.
-        let Lists { graph, path } = &mut self.lists;
+        let Lists { graph, path, .. } = &mut self.lists;
         let ours = library::judge(&show.program, &show.lemmas, graph, path);
         let (graph_1, path_1) = (graph.clone(), path.clone());
         let theirs = other::judge(&show.program, &show.lemmas, graph, path);
         assert_eq!(ours, theirs, "{}", show.name);
         assert!(graph_1 == *graph && path_1 == *path, "{}", show.name);
         assert_eq!((ours.verdict, ours.nodes), (library::BNV_SAFE, show.nodes), "{}: {ours:?}", show.name);
-        let mut more = Lists { graph: vec![0; GRAPH_WORDS], path: vec![0; PATH_WORDS] };
+        let mut more = Lists::new();
         times(
             self.span,
             || {
@@ -106,7 +115,24 @@ impl Table {
         )
     }
 
-    /// All four calls on one show.
+    fn findings(&mut self, show: &Show) -> (f64, f64) {
+        let Lists { graph, findings, .. } = &mut self.lists;
+        let ours = library::findings(&show.program, &show.lemmas, graph, findings);
+        assert_eq!(ours, other::findings(&show.program, &show.lemmas, graph, findings), "{}", show.name);
+        assert_eq!((ours.answer, ours.count), (library::BNV_LISTED, 0), "{}: {ours:?}", show.name);
+        let mut more = Lists::new();
+        times(
+            self.span,
+            || {
+                black_box(library::findings(black_box(&show.program), black_box(&show.lemmas), graph, findings));
+            },
+            || {
+                black_box(other::findings(black_box(&show.program), black_box(&show.lemmas), &mut more.graph, &mut more.findings));
+            },
+        )
+    }
+
+    /// All five calls on one show.
     fn row(&mut self, show: &Show, growth: bool) {
         let (program, lemmas) = (&show.program, &show.lemmas);
         let span = self.span;
@@ -153,6 +179,8 @@ impl Table {
         self.cell(&show.name, 2, asked, growth);
         let judged = self.judge(show);
         self.cell(&show.name, 3, judged, growth);
+        let found = self.findings(show);
+        self.cell(&show.name, 4, found, growth);
     }
 }
 
@@ -171,7 +199,7 @@ fn once(words: &[String]) -> Option<()> {
     let (program, lemmas) = (&show.program, &show.lemmas);
     let last = library::check(&show.stepped).actions - 1;
     let k = show.count - 1;
-    let (mut graph, mut path) = (vec![0; GRAPH_WORDS], vec![0; PATH_WORDS]);
+    let Lists { mut graph, mut path, mut findings } = Lists::new();
     for _ in 0..count.parse().ok()? {
         let mut state = show.state.clone();
         match (call.as_str(), library) {
@@ -183,6 +211,8 @@ fn once(words: &[String]) -> Option<()> {
             ("ask", false) => { black_box(other::ask(black_box(program), lemmas, k)); }
             ("judge", true) => { black_box(library::judge(black_box(program), lemmas, &mut graph, &mut path)); }
             ("judge", false) => { black_box(other::judge(black_box(program), lemmas, &mut graph, &mut path)); }
+            ("findings", true) => { black_box(library::findings(black_box(program), lemmas, &mut graph, &mut findings)); }
+            ("findings", false) => { black_box(other::findings(black_box(program), lemmas, &mut graph, &mut findings)); }
             _ => return None,
         }
     }
@@ -193,7 +223,7 @@ fn main() {
     let words: Vec<String> = std::env::args().skip(1).collect();
     if words.first().is_some_and(|w| w == "once") {
         if once(&words[1..]).is_none() {
-            eprintln!("usage: bench once library|other check|step|ask|judge NODES|rig8 TIMES");
+            eprintln!("usage: bench once library|other check|step|ask|judge|findings NODES|rig8 TIMES");
             std::process::exit(2);
         }
         return;
@@ -201,8 +231,8 @@ fn main() {
     let span: u32 = std::env::args().nth(1).and_then(|a| a.parse().ok()).unwrap_or(200);
     let mut table = Table {
         span: f64::from(span) / 1000.0,
-        lists: Lists { graph: vec![0; GRAPH_WORDS], path: vec![0; PATH_WORDS] },
-        before: [None; 4],
+        lists: Lists::new(),
+        before: [None; 5],
     };
     println!("Processor time, least average of {ROUNDS} rounds; the two sides take turns. The lent lists are not cleared between calls:");
     println!("each call finds what the last one left. Growth: library time over that of the row before. Ask: the last lemma.");

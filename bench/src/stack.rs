@@ -49,6 +49,7 @@ pub fn used(show: &Show) -> Vec<(&'static str, usize)> {
     let (mut g, mut p) = (vec![0; GRAPH_WORDS], vec![0; PATH_WORDS]);
     let (mut h, mut q) = (vec![0; GRAPH_WORDS], vec![0; PATH_WORDS]);
     let (mut i, mut r) = (vec![0; GRAPH_WORDS], vec![0; PATH_WORDS]);
+    let (mut f, mut l) = (vec![0; GRAPH_WORDS], vec![0; PATH_WORDS]);
     let mut words = vec![0; library::BNV_SHOW_WORDS as usize];
     let bytes: Vec<u8> = program.iter().chain(lemmas).flat_map(|w| w.to_le_bytes()).collect();
     let mut state = show.state.clone();
@@ -59,6 +60,7 @@ pub fn used(show: &Show) -> Vec<(&'static str, usize)> {
         ("step", on_a_thread(move || { black_box(library::step(program, 0, &mut state)); })),
         ("ask", on_a_thread(|| { black_box(library::ask(program, lemmas, k)); })),
         ("judge", on_a_thread(move || { black_box(library::judge(program, lemmas, &mut g, &mut p)); })),
+        ("findings", on_a_thread(move || { black_box(library::findings(program, lemmas, &mut f, &mut l)); })),
         ("show", on_a_thread(move || { black_box(library::show(&bytes, &mut words, &mut i, &mut r)); })),
         ("judge, other", on_a_thread(move || { black_box(other::judge(program, lemmas, &mut h, &mut q)); })),
     ]

@@ -2,13 +2,14 @@
 
 use crate::counts::*;
 use crate::dice::Dice;
+use crate::findings;
 use crate::generate::Input;
 use crate::other;
-use bulanevior::raw::{self as library, BnvJudge, BNV_JUDGED, BNV_JUDGE_REFUSED, BNV_NODE, BNV_NO_NODE, BNV_SAFE};
+use bulanevior::raw::{self as library, BnvFindings, BnvJudge, BNV_JUDGED, BNV_JUDGE_REFUSED, BNV_NODE, BNV_NO_NODE, BNV_SAFE};
 use independent::words::{EDGE, END, GRAPH_WORDS, HEADER, MAX_NODES, PATH_WORDS};
 
 /// Words before and behind each lent list that no call may touch.
-const MARGIN: usize = 32;
+pub const MARGIN: usize = 32;
 const LONGEST: usize = 12_000;
 /// Of a show: the most bytes, and the least words of the list that they are read into.
 const SHOW_BYTES: usize = 65_536;
@@ -20,11 +21,14 @@ pub struct Compare {
     pub calls: u64,
     /// The last input of `all` is safe by what is kept.
     pub safe_by_kept: bool,
+    /// The findings last listed; none if the last input of `all` was refused.
+    pub sheet: Vec<u32>,
     pattern: Vec<u32>,
     /// Lent lists with their margins: library, independent.
     graphs: [Vec<u32>; 2],
     paths: [Vec<u32>; 2],
     shows: [Vec<u32>; 2],
+    sheets: [Vec<u32>; 2],
     states: [Vec<i32>; 2],
 }
 
@@ -70,10 +74,12 @@ impl Compare {
             counts: Counts::default(),
             calls: 0,
             safe_by_kept: false,
-            pattern: (0..SHOW_WORDS + 64 + 2 * MARGIN + 1024).map(|_| dice.next() as u32).collect(),
+            sheet: Vec::new(),
+            pattern: (0..findings::LONGEST + 2 * MARGIN + 1024).map(|_| dice.next() as u32).collect(),
             graphs: Default::default(),
             paths: Default::default(),
             shows: Default::default(),
+            sheets: Default::default(),
             states: Default::default(),
         }
     }
@@ -132,7 +138,7 @@ impl Compare {
     }
 
     pub fn judge_uncounted(&mut self, input: &Input, graph: usize, path: usize, offset: usize) -> Result<BnvJudge, Difference> {
-        self.lend(offset, graph, path, 0);
+        self.lend(offset, [graph, path, 0, 0]);
         let (g, p) = (MARGIN..MARGIN + graph, MARGIN..MARGIN + path);
         let ours = library::judge(
             &input.program,
@@ -151,8 +157,9 @@ impl Compare {
     }
 
     /// Fills the lists of both sides, with their margins, from a place of the pattern.
-    fn lend(&mut self, offset: usize, graph: usize, path: usize, words: usize) {
-        for (lists, length) in [(&mut self.graphs, graph), (&mut self.paths, path), (&mut self.shows, words)] {
+    fn lend(&mut self, offset: usize, lengths: [usize; 4]) {
+        let all = [&mut self.graphs, &mut self.paths, &mut self.shows, &mut self.sheets];
+        for (lists, length) in all.into_iter().zip(lengths) {
             for list in lists {
                 list.clear();
                 list.extend_from_slice(&self.pattern[offset..offset + length + 2 * MARGIN]);
@@ -162,7 +169,8 @@ impl Compare {
 
     /// Every lent word is the same on both sides.
     fn lent_alike(&self, input: &Input, name: &dyn Fn() -> String, answer: &dyn std::fmt::Debug) -> Result<(), Difference> {
-        for (list, lists) in [("graph", &self.graphs), ("path", &self.paths), ("words", &self.shows)] {
+        let names = ["graph", "path", "words", "findings"];
+        for (list, lists) in names.into_iter().zip([&self.graphs, &self.paths, &self.shows, &self.sheets]) {
             if let Some(at) = first(&lists[0], &lists[1]) {
                 let place = format!("{}: {list} word {}", name(), at as i64 - MARGIN as i64);
                 let word = |side: usize| format!("{:08X} after {answer:?}", lists[side][at]);
@@ -170,6 +178,24 @@ impl Compare {
             }
         }
         Ok(())
+    }
+
+    /// `graph` and `list` are the lengths lent.
+    pub fn findings(&mut self, input: &Input, graph: usize, list: usize, offset: usize) -> Result<BnvFindings, Difference> {
+        self.lend(offset, [graph, 0, 0, list]);
+        let (g, l) = (MARGIN..MARGIN + graph, MARGIN..MARGIN + list);
+        let [ours, theirs] = [0, 1].map(|side| {
+            let call = if side == 0 { library::findings } else { other::findings };
+            let (graph, list) = (&mut self.graphs[side][g.clone()], &mut self.sheets[side][l.clone()]);
+            call(&input.program, &input.lemmas, graph, list)
+        });
+        self.calls += 1;
+        let name = || format!("findings with lists of {graph} and {list} words");
+        if ours != theirs {
+            return Err(differ(input, &name(), &ours, &theirs));
+        }
+        self.lent_alike(input, &name, &ours)?;
+        Ok(ours)
     }
 
     /// The bytes of an input, whole or damaged, through the call from bytes.
@@ -193,7 +219,7 @@ impl Compare {
         bytes.resize(from + cut, dice.pick(&[0, 0xFF, 0x90]));
         let (graph, path) = (length(dice, GRAPH_WORDS, LONGEST), length(dice, PATH_WORDS, 2000));
         let room = length(dice, SHOW_WORDS, SHOW_WORDS + 64);
-        self.lend(dice.below(1024), graph, path, room);
+        self.lend(dice.below(1024), [graph, path, room, 0]);
         let (g, p, w) = (MARGIN..MARGIN + graph, MARGIN..MARGIN + path, MARGIN..MARGIN + room);
         let bytes = &bytes[from..];
         let [ours, theirs] = [0, 1].map(|side| {
@@ -251,6 +277,26 @@ impl Compare {
         &self.graphs[1][MARGIN..self.graphs[1].len() - MARGIN]
     }
 
+    /// The library's graph list of the last call, with its margins, which the next call lends anew.
+    pub fn take_graph(&mut self) -> Vec<u32> {
+        std::mem::take(&mut self.graphs[0])
+    }
+
+    /// Whether the library's graph list of the last call, with its margins, is this one.
+    pub fn graph_is(&self, list: &[u32]) -> bool {
+        self.graphs[0] == list
+    }
+
+    /// The library's findings list of the last call.
+    pub fn findings_list(&self) -> &[u32] {
+        &self.sheets[0][MARGIN..self.sheets[0].len() - MARGIN]
+    }
+
+    /// Whether it is as it was lent.
+    pub fn findings_list_left(&self, offset: usize) -> bool {
+        self.sheets[0] == self.pattern[offset..offset + self.sheets[0].len()]
+    }
+
     pub fn successor(&mut self, graph: &[u32], nodes: usize, actions: usize, node: usize, action: usize) -> Result<(), Difference> {
         let ours = library::successor(graph, nodes, actions, node, action);
         let theirs = other::successor(graph, nodes, actions, node, action);
@@ -273,9 +319,8 @@ impl Compare {
         ))
     }
 
-    /// All calls on one input. Hands back what judge answered on lists of full length.
-    pub fn all(&mut self, input: &Input, dice: &Dice) -> Result<Option<BnvJudge>, Difference> {
-        let mine = input.clone();
+    /// Check, and a few questions of parts, steps and lemmas.
+    fn questions(&mut self, input: &Input, dice: &Dice) -> Result<library::BnvCheck, Difference> {
         let check = self.check(input)?;
         let odd = [16, 17, 255, 1 << 32, usize::MAX, usize::MAX - 1];
         let k = dice.below(check.actions + 1);
@@ -291,8 +336,16 @@ impl Compare {
             let k = if dice.percent(2) { dice.pick(&odd) } else { dice.below(lemmas + usize::from(dice.percent(5))) };
             self.ask(input, k)?;
         }
+        Ok(check)
+    }
+
+    /// All calls on one input. Hands back what judge answered on lists of full length.
+    pub fn all(&mut self, input: &Input, dice: &Dice) -> Result<Option<BnvJudge>, Difference> {
+        let mine = input.clone();
+        let check = self.questions(input, dice)?;
         let (graph, path) = (length(dice, GRAPH_WORDS, LONGEST), length(dice, PATH_WORDS, 2000));
-        let judged = self.judge(input, graph, path, dice.below(1024))?;
+        let offset = dice.below(1024);
+        let judged = self.judge(input, graph, path, offset)?;
         let looked = self.look(input, &judged)?;
         if judged.verdict == BNV_SAFE && input.program.len() > 1 && input.program[input.program.len() - 2] >> 28 == 8 {
             self.counts.note("safe, combinations named");
@@ -302,6 +355,7 @@ impl Compare {
         } else if dice.percent(3) {
             self.views(dice.below(20), check.actions, dice)?;
         }
+        self.find(input, &judged, (graph, offset), dice)?;
         if dice.percent(30) {
             self.show(input, dice)?;
         }

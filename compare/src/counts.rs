@@ -28,6 +28,16 @@ pub const DUE: &[&str] = &[
     "kept against shown, no successor", "lost, variable set to itself", "lost, a part of its variables set",
     "another graph by what is kept", "another verdict by what is kept", "safe by what is kept",
     "all states walked, safe by what is kept", "refusal 7 by what is kept",
+    "findings none", "findings 1", "findings 2 to 15", "findings 16 to 255", "findings 256 to 1,023", "findings 1,024 or more",
+    "findings forbid", "findings run-off low", "findings run-off high", "findings of both kinds at a node",
+    "findings, 2 combinations at a node", "findings, both ends of a variable", "findings at 2 nodes or more",
+    "findings, 512 nodes", "findings past node 255", "findings of action 15", "findings of variable 7", "findings of combination 7",
+    "findings, no successor passed over",
+    "findings refusal 1", "findings refusal 2", "findings refusal 3", "findings refusal 4", "findings refusal 5",
+    "findings refusal 6", "findings refusal 7", "findings refusal 12",
+    "findings list of length 0", "findings list exactly enough", "findings list one short",
+    "findings list longer, rest zeroed", "findings list much longer",
+    "all states walked, a fault on the sheet",
 ];
 
 impl Counts {
@@ -106,6 +116,19 @@ pub fn judge_name(verdict: u32, high: u32, refusal: u32, value: usize) -> &'stat
         (_, _, 5, _) => "judge refusal 5",
         (_, _, 6, _) => "judge refusal 6",
         _ => "judge refusal 7",
+    }
+}
+
+pub fn findings_name(refusal: u32) -> &'static str {
+    match refusal {
+        1 => "findings refusal 1",
+        2 => "findings refusal 2",
+        3 => "findings refusal 3",
+        4 => "findings refusal 4",
+        5 => "findings refusal 5",
+        6 => "findings refusal 6",
+        7 => "findings refusal 7",
+        _ => "findings refusal 12",
     }
 }
 

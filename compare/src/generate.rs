@@ -278,7 +278,7 @@ fn lemmas_at_will(dice: &Dice, t: &Text) -> Vec<Vec<u32>> {
 }
 
 /// Up to `most` literals, of different predicates.
-fn literals(dice: &Dice, predicates: usize, most: usize) -> (u32, u32) {
+pub fn literals(dice: &Dice, predicates: usize, most: usize) -> (u32, u32) {
     let (mut f, mut t) = (0, 0);
     for _ in 0..dice.below(most + 1) {
         let bit = 1u32 << dice.below(predicates.max(1));

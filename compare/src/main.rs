@@ -4,10 +4,13 @@
 mod calls;
 mod counts;
 mod dice;
+mod findings;
 mod generate;
 mod keeping;
+mod open;
 mod other;
 mod prover;
+mod sheets;
 mod states;
 mod sweep;
 mod touch;
@@ -23,22 +26,25 @@ use std::time::Instant;
 const STATES: usize = 2_000;
 const STATES_DAMAGED: usize = 300;
 
-/// Holds the verdict and the accepted lemmas to all states, where they are few.
-fn walk(compare: &mut Compare, input: &Input, judged: &BnvJudge, most: usize) -> Result<(), Difference> {
+/// Holds the findings, and of the first `asked` lemmas the accepted ones, to all states, where they are at most `most`.
+fn walk(compare: &mut Compare, input: &Input, judged: &BnvJudge, most: usize, asked: usize) -> Result<(), Difference> {
     let Ok(program) = independent::program::read(&input.program) else { return Ok(()) };
     let Some(states) = states::count(&program, most) else { return Ok(()) };
     let Ok(lemmas) = independent::lemma::read(&program, &input.lemmas) else { return Ok(()) };
     let mut accepted = Vec::new();
-    for (k, lemma) in lemmas.iter().enumerate() {
+    for (k, lemma) in lemmas.iter().enumerate().take(asked) {
         if compare.ask(input, k)? == BNV_ACCEPTED {
             accepted.push(lemma);
         }
     }
-    let walked = states::walk(&program, states, &accepted, judged.verdict == BNV_SAFE)
+    let walked = states::walk(&program, states, &accepted, &states::Sheet::of(&compare.sheet))
         .map_err(|fault| falsehood(input, judged, &fault))?;
     let counts = &mut compare.counts;
     counts.note("all states walked");
     counts.add("accepted lemma, all states", walked.lemmas as u64);
+    if walked.faults > 0 {
+        counts.note("all states walked, a fault on the sheet");
+    }
     if judged.verdict == BNV_SAFE {
         counts.note("all states walked, safe");
         counts.add("reachable states, safe", walked.reachable as u64);
@@ -52,7 +58,7 @@ fn walk(compare: &mut Compare, input: &Input, judged: &BnvJudge, most: usize) ->
     Ok(())
 }
 
-/// A logic, then damaged copies of it, then now and then noise, until there are `inputs`.
+/// A logic, a copy with more findings, then damaged copies, then now and then noise, until there are `inputs`.
 fn run(compare: &mut Compare, inputs: u64, seed: u64) -> Result<u64, Difference> {
     let mut done = 0;
     let mut logics = 0;
@@ -61,11 +67,15 @@ fn run(compare: &mut Compare, inputs: u64, seed: u64) -> Result<u64, Difference>
         let dice = Dice::new(seed, logics);
         let logic = generate::logic(&dice);
         for copy in 0..6 {
-            let (input, most) =
-                if copy == 0 { (logic.clone(), STATES) } else { (generate::damaged(&dice, &logic), STATES_DAMAGED) };
+            let (input, most, asked) = match copy {
+                0 => (logic.clone(), STATES, usize::MAX),
+                // Its lemmas are the logic's.
+                1 => (open::open(&dice, &logic), STATES, 0),
+                _ => (generate::damaged(&dice, &logic), STATES_DAMAGED, usize::MAX),
+            };
             let judged = compare.all(&input, &dice).map_err(at)?;
             if let Some(judged) = judged.filter(|j| j.verdict != BNV_JUDGE_REFUSED) {
-                walk(compare, &input, &judged, most).map_err(at)?;
+                walk(compare, &input, &judged, most, asked).map_err(at)?;
             }
             done += 1;
         }

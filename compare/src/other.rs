@@ -1,8 +1,8 @@
-//! The independent code behind the same seven calls. Fields that an answer does not use are 0.
+//! The independent code behind the same eight calls. Fields that an answer does not use are 0.
 
 use bulanevior::raw::*;
 use independent::bytes::Shown;
-use independent::{Asked, Judged, Stepped};
+use independent::{Asked, Judged, Listed, Stepped};
 
 /// Records of zeros, which are no answers.
 const NO_CHECK: BnvCheck =
@@ -11,6 +11,7 @@ const NO_STEP: BnvStep = BnvStep { answer: 0, variable: 0, refusal: 0, value: 0 
 const NO_ASK: BnvAsk = BnvAsk { answer: 0, refusal: 0, value: 0 };
 const NO_JUDGE: BnvJudge =
     BnvJudge { verdict: 0, node: 0, place: 0, variable: 0, high: 0, nodes: 0, edges: 0, refusal: 0, value: 0 };
+const NO_FINDINGS: BnvFindings = BnvFindings { answer: 0, refusal: 0, value: 0, count: 0 };
 const NO_SUCCESSOR: BnvSuccessor = BnvSuccessor { answer: 0, node: 0, refusal: 0, value: 0 };
 
 pub fn check(words: &[u32]) -> BnvCheck {
@@ -83,6 +84,15 @@ pub fn show(bytes: &[u8], words: &mut [u32], graph: &mut [u32], path: &mut [u32]
         Shown::TooLong => none(BNV_TOO_LONG),
         Shown::OddBytes => none(BNV_ODD_BYTES),
         Shown::Judged { logic, lemmas, answer } => BnvShow { answer: BNV_JUDGED, logic, lemmas, judged: judged(answer) },
+    }
+}
+
+pub fn findings(words: &[u32], lemmas: &[u32], graph: &mut [u32], list: &mut [u32]) -> BnvFindings {
+    match independent::findings(words, lemmas, graph, list) {
+        Listed::Listed(count) => BnvFindings { answer: BNV_LISTED, count, ..NO_FINDINGS },
+        Listed::Refused(r) => {
+            BnvFindings { answer: BNV_FINDINGS_REFUSED, refusal: r.number, value: r.value as usize, ..NO_FINDINGS }
+        }
     }
 }
 

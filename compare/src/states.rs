@@ -1,8 +1,10 @@
 //! Walks through all states of a small logic, by the document's words on rows, states and runs, and
-//! holds accepted lemmas and the verdict safe to them.
+//! holds accepted lemmas and the findings, or that there are none, to them.
 
+use bulanevior::{End, Finding};
 use independent::lemma::{Goal, Lemma, Source};
 use independent::program::{Action, Literals, Program};
+use independent::words::MAX_ACTIONS;
 
 /// What an enabled action does at a state.
 struct Move {
@@ -17,6 +19,8 @@ struct Move {
 
 pub struct Walk {
     pub reachable: usize,
+    /// Reachable states with a fault, each on the sheet.
+    pub faults: usize,
     /// Accepted lemmas, each held to all states.
     pub lemmas: usize,
 }
@@ -116,41 +120,74 @@ fn refuted(all: &States, actions: usize, lemma: &Lemma) -> Option<usize> {
     })
 }
 
-/// No run meets a forbidden state or runs off: hands back how many states runs reach.
-fn reached(program: &Program, all: &States) -> Result<usize, String> {
+/// What findings there are, at whatever node.
+#[derive(Default)]
+pub struct Sheet {
+    /// Combinations, a bit each.
+    combinations: u32,
+    /// For each action the variables that may go below their low end, and above their high end.
+    below: [u32; MAX_ACTIONS],
+    above: [u32; MAX_ACTIONS],
+}
+
+impl Sheet {
+    pub fn of(words: &[u32]) -> Sheet {
+        let mut sheet = Sheet::default();
+        for finding in words.iter().filter_map(|w| Finding::of(*w)) {
+            match finding {
+                Finding::MayForbid { combination, .. } => sheet.combinations |= 1 << combination,
+                Finding::MayRunOff { action, variable, end: End::Low, .. } => sheet.below[action] |= 1 << variable,
+                Finding::MayRunOff { action, variable, end: End::High, .. } => sheet.above[action] |= 1 << variable,
+            }
+        }
+        sheet
+    }
+}
+
+/// Every forbidden state that a run meets and every way in which one runs off is on the sheet: hands back how many states
+/// runs reach, and how many of them have such a fault.
+fn reached(program: &Program, all: &States, sheet: &Sheet) -> Result<(usize, usize), String> {
     let actions = program.actions.len();
+    let mut faults = 0;
     let mut seen = all.starts.clone();
     let mut list: Vec<usize> = (0..seen.len()).filter(|s| seen[*s]).collect();
     let mut at = 0;
     while at < list.len() {
         let s = list[at];
         at += 1;
-        if let Some(b) = program.forbidden.iter().position(|c| meets(c, all.predicates[s])) {
-            return Err(format!("safe, but the reachable state {s} meets combination {b}"));
+        let mut fault = false;
+        for (b, _) in program.forbidden.iter().enumerate().filter(|(_, c)| meets(c, all.predicates[s])) {
+            fault = true;
+            if sheet.combinations >> b & 1 == 0 {
+                return Err(format!("no finding says so, but the reachable state {s} meets combination {b}"));
+            }
         }
         for (a, it) in all.moves[s * actions..(s + 1) * actions].iter().enumerate() {
             let Some(it) = it else { continue };
-            if it.below | it.above != 0 {
-                return Err(format!("safe, but action {a} runs off at the reachable state {s}"));
+            if it.below & !sheet.below[a] != 0 || it.above & !sheet.above[a] != 0 {
+                return Err(format!("no finding says so, but action {a} runs off at the reachable state {s}"));
             }
-            if !seen[it.next] {
+            if it.below | it.above != 0 {
+                fault = true;
+            } else if !seen[it.next] {
                 seen[it.next] = true;
                 list.push(it.next);
             }
         }
+        faults += usize::from(fault);
     }
-    Ok(at)
+    Ok((at, faults))
 }
 
-/// Holds each accepted lemma to all states of the ranges, and the verdict safe to all runs. `accepted` are the lemmas that
-/// the library accepts; `safe` is its verdict.
-pub fn walk(program: &Program, states: usize, accepted: &[&Lemma], safe: bool) -> Result<Walk, String> {
+/// Holds each accepted lemma to all states of the ranges, and the findings to all runs. `accepted` are the lemmas that
+/// the library accepts; `sheet` is what it finds.
+pub fn walk(program: &Program, states: usize, accepted: &[&Lemma], sheet: &Sheet) -> Result<Walk, String> {
     let all = all(program, states);
     for (number, lemma) in accepted.iter().enumerate() {
         if let Some(s) = refuted(&all, program.actions.len(), lemma) {
             return Err(format!("accepted lemma {number} of the accepted ones is false at state {s}: {lemma:?}"));
         }
     }
-    let reachable = if safe { reached(program, &all)? } else { 0 };
-    Ok(Walk { reachable, lemmas: accepted.len() })
+    let (reachable, faults) = reached(program, &all, sheet)?;
+    Ok(Walk { reachable, faults, lemmas: accepted.len() })
 }

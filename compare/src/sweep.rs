@@ -1,11 +1,13 @@
 //! Full sweeps over a full-sized program and a full-sized lemma list: every cut, every kind in every place,
 //! every single unnamed bit, every field at its ends and one past them; lengths of all lent lists. And request 1's clause:
-//! small logics, and every set of variables against every other.
+//! small logics, and every set of variables against every other. Request 2's are in sheets.rs.
 
 use crate::calls::{falsehood, Compare, Difference};
+use crate::counts::DUE;
 use crate::generate::Input;
 use crate::keeping::NAMES;
 use crate::touch::Graph;
+use bulanevior::raw::BnvJudge;
 use independent::program::Literals;
 use independent::shows::*;
 use independent::words::*;
@@ -119,9 +121,9 @@ fn replacements(word: u32) -> Vec<u32> {
     words
 }
 
-struct Sweep<'a> {
-    compare: &'a mut Compare,
-    inputs: u64,
+pub struct Sweep<'a> {
+    pub compare: &'a mut Compare,
+    pub inputs: u64,
 }
 
 impl Sweep<'_> {
@@ -132,14 +134,23 @@ impl Sweep<'_> {
         let state = [0, 1, 2, 3, 4, 5, 6, 7];
         self.compare.step(input, at % 16, &state)?;
         self.compare.ask(input, 0)?;
-        self.compare.judge(input, GRAPH_WORDS + 3, PATH_WORDS + 3, 0)?;
-        Ok(())
+        let judged = self.compare.judge(input, GRAPH_WORDS + 3, PATH_WORDS + 3, 0)?;
+        self.found(input, &judged, 3)
     }
 
     fn lemmas(&mut self, input: &Input, at: usize) -> Result<(), Difference> {
         self.inputs += 1;
         self.compare.ask(input, at / 25)?;
-        self.compare.judge(input, GRAPH_WORDS, PATH_WORDS, 0)?;
+        let judged = self.compare.judge(input, GRAPH_WORDS, PATH_WORDS, 0)?;
+        self.found(input, &judged, 11)
+    }
+
+    /// After Judge: the findings too, of one in `every` inputs. They are read as by Judge.
+    fn found(&mut self, input: &Input, judged: &BnvJudge, every: u64) -> Result<(), Difference> {
+        if self.inputs % every == 0 {
+            let before = self.compare.before(judged, 0);
+            self.compare.sheet(input, &before, self.inputs as usize % 5)?;
+        }
         Ok(())
     }
 }
@@ -164,7 +175,9 @@ pub fn sweep(compare: &mut Compare) -> Result<u64, Difference> {
     sweep.kept_by_one()?;
     sweep.kept_by_two()?;
     sweep.kept_by_variables()?;
-    match NAMES.into_iter().find(|name| sweep.compare.counts.of(name) == 0) {
+    sweep.sheets()?;
+    let findings = DUE.iter().copied().filter(|name| name.starts_with("findings"));
+    match NAMES.into_iter().chain(findings).find(|name| sweep.compare.counts.of(name) == 0) {
         Some(name) => Err(format!("the sweeps never had: {name}")),
         None => Ok(sweep.inputs),
     }
@@ -220,6 +233,7 @@ impl Sweep<'_> {
                 self.compare.judge(input, graph, path, graph % 7)?;
                 self.inputs += 1;
             }
+            self.lengths(input, graph, &[0, 1, 2, 5_000])?;
         }
         let counts = self.compare.check(input)?;
         let lemmas = input.lemmas.iter().filter(|w| kind(**w) == LEMMA).count();
@@ -334,7 +348,7 @@ fn small_sets() -> Vec<Vec<(u32, RowText)>> {
     [vec![]].into_iter().chain(x.iter().chain(&y).map(|a| vec![a.clone()])).chain(both).collect()
 }
 
-fn pairs<A: Clone, B: Clone>(a: &[A], b: &[B]) -> Vec<(A, B)> {
+pub fn pairs<A: Clone, B: Clone>(a: &[A], b: &[B]) -> Vec<(A, B)> {
     a.iter().flat_map(|a| b.iter().map(|b| (a.clone(), b.clone()))).collect()
 }
 
@@ -384,7 +398,10 @@ impl Sweep<'_> {
     fn small(&mut self, input: &Input) -> Result<(), Difference> {
         self.inputs += 1;
         let judged = self.compare.judge(input, GRAPH_WORDS, PATH_WORDS, 0)?;
-        if let Some(looked) = self.compare.look(input, &judged)? {
+        let looked = self.compare.look(input, &judged)?;
+        let before = self.compare.before(&judged, 0);
+        self.compare.sheets(input, &before, self.inputs as usize % 7, |due, _| due)?;
+        if let Some(looked) = looked {
             self.compare.touch_all(input, &judged, &looked)?;
         }
         Ok(())
