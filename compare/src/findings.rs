@@ -47,7 +47,9 @@ fn first(j: &BnvJudge) -> Option<Finding> {
 
 /// A list that `count` findings were written to, beside Judge's answer.
 fn listed(judged: &BnvJudge, list: &[u32], count: usize) -> Result<(), String> {
-    let Some((words, rest)) = list.split_at_checked(count) else { return Err("more findings than words".into()) };
+    let (Some(words), Some(rest)) = (list.get(..count), list.get(count..)) else {
+        return Err("more findings than words".into());
+    };
     for (fault, what) in [
         (!bulanevior::listed(list).map(word).eq(words.iter().copied()), "a word is not the one of its finding"),
         (rest.iter().any(|w| *w != 0), "a word behind the findings is not zero"),
