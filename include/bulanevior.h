@@ -44,7 +44,7 @@ static_assert(sizeof(size_t) == 8, "64-bit numbers only");
 _Static_assert(sizeof(size_t) == 8, "64-bit numbers only");
 #endif
 
-#define BNV_VERSION "0.4.0"
+#define BNV_VERSION "0.4.1"
 
 /* ---- Words: the kind in bits 31 to 28, the payload in bits 27 to 0. */
 

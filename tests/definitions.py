@@ -65,15 +65,19 @@ def without_comment(line):
 
 
 def used_names(line):
-    """`use PATH.{a, b as c}`: the path, and each name here with its name there."""
+    """`use PATH.{a, b as c}`, or with groups in the group, `use PATH.{M.{a}, N.{b}}`: each path, and each name here with its name there."""
     found = re.match(r"\s*(?:ghost |pub )?use ([^{]*)\.\{(.*)\};?\s*$", line)
     if not found:
         raise Unknown(f"a use that cannot be read: {line}")
-    names = {}
-    for one in found[2].split(","):
+    path, names = found[1].strip(), {}
+    for one in re.findall(r"(?:[^,{]|\{[^{}]*\})+", found[2]):
+        if "{" in one:
+            yield from used_names(f"use {path}.{one.strip()}")
+            continue
         there, _, here = one.strip().partition(" as ")
         names[here.strip() or there] = there
-    return found[1].strip(), names
+    if names:
+        yield path, names
 
 
 def mixfix(table, name):
@@ -196,22 +200,19 @@ class Crates:
         return [self.files[key] for key in sorted(self.files, key=place) if self.files[key].definitions]
 
     def use(self, table, parts, line):
-        path, names = used_names(line)
-        if path.split(".")[0] in LIBRARIES:
-            for here in names:
-                table[here] = None
+        for path, names in used_names(line):
+            found = re.fullmatch(r"Rattle·(\w+)(?:·\w+)?\.(specs|proofs)\.(.*)", path)
+            if not found and path.split(".")[0] not in LIBRARIES:
+                raise Unknown(f"a path that cannot be read: {line}")
+            for here, there in names.items():
+                table[here] = self.meant(*found.groups(), there) if found else None
                 mixfix(parts, here)
-            return
-        found = re.fullmatch(r"Rattle·(\w+)(?:·\w+)?\.(specs|proofs)\.(.*)", path)
-        if not found:
-            raise Unknown(f"a path that cannot be read: {line}")
-        crate, folder, rest = found.groups()
-        for here, there in names.items():
-            if rest.startswith("declared."):
-                table[here] = ("declared", crate, rest.split(".")[1])
-            else:
-                table[here] = ("file", (crate, folder, rest), there)
-            mixfix(parts, here)
+
+    def meant(self, crate, folder, rest, name):
+        """What a name of a file stands for."""
+        if rest.startswith("declared."):
+            return "declared", crate, rest.split(".")[1]
+        return "file", (crate, folder, rest), name
 
     def read_file(self, f):
         lines = f.path.read_text().splitlines()

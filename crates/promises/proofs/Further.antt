@@ -1,45 +1,35 @@
 -- The promises of what came after the base, with their types and nothing else.
 --
--- The calls' own contracts, without any `requires`; all words are the lent lists' at entry:
+-- The calls' own contracts, without any `requires` but `row_at`'s, which is no call from outside; all words are the lent lists' at entry:
 --   show::show(bytes, words, g, p)      r, g and p at exit are those of show bytes words g p; words at exit are wordsLeft r bytes words;
 --                                       r ≡ Answered l m (Safe n e) → SafeShow bytes                                crates/show/src/lib.rt
 --   exports::bnv_show(..)               the same, r as the record of numbers showOf; no call's answer is 0          crates/exports/src/lib.rt
 --   findings::findings(ws, ls, g, f)    r, g and f at exit are those of listing ws ls g f; SheetOf of r and both lists; r ≡ All 0 → SafeOf (read ws);
 --                                       Agrees with Judge's answer, and g at exit is Judge's                        crates/findings/src/lib.rt
 --   exports::bnv_findings(..)           the same, r as the record of numbers findingsOf                             crates/exports/src/lib.rt
+--   reader::row_at(words, at, vars)     r ≡ rowRead (row vars (drop at words) at) and r ≡ rowRead (fed (begun vars at) (drop at words)),
+--                                       where vars ≤ 8 and at ≤ length words                                        crates/reader/src/lib.rt
 --   streams::next(way, room, at, a)     r ≡ next way room at a                                                      crates/streams/src/lib.rt
-use mathlib.Core.Path.{_≡_}
-use mathlib.Core.Bool.{true, false}
-use mathlib.Core.Logic.{_⊎_, _↔_}
-use mathlib.Core.List.{List, _∷_, _++_, map, List·Memᴰ}
+use mathlib.Core.{Path.{_≡_}, Bool.{true, false, cond}, Logic.{_⊎_, _↔_}, List.{List, _∷_, _++_, map, List·Memᴰ}}
 use Prim.Native.Nat.{ℕ, _+_, _%_, _^_, _≤_, _<_}
-use lib.IntN.{ℤ, pos}
-use lib.ListN.{length, getD}
-use Rattle.words.specs.Words.{kindOf, FINDING}
-use Rattle.words.specs.Limits.{mostNodes, mostFindings}
+use lib.{Dec.{eqb}, IntN.{ℤ, pos}, ListN.{length, getD}}
+use Rattle.words.specs.{Words.{kindOf, FINDING}, Limits.{mostNodes, mostFindings, mostVariables}, declared.Refusal.the-variants.{Word as Missing}}
 use Rattle.words.specs.LiteralSets.{Literal, B, NotB, predicateOf, literalsIn}
-use Rattle.rows.specs.declared.Row.{Row}
-use Rattle.rows.specs.Rows.{rowValue}
-use Rattle.grammar.specs.Programs.{Assignment, Program}
-use Rattle.grammar.specs.WellFormed.{Each, WellFormed}
-use Rattle.lemmas.specs.Lemmas.{HoldsAfter, FailsAfter, Lemma}
+use Rattle.rows.specs.{declared.Row.{Row}, Rows.{rowValue}}
+use Rattle.grammar.specs.{Programs.{Assignment, Program}, WellFormed.{Each, WellFormed}, Grammar.{row}}
+use Rattle.feed.specs.{declared.Fed.the-variants.{End}, declared.Said.the-variants.{Complete, Refused}, Steps.{Held, place, rowStep, fed, begun}}
+use Rattle.lemmas.specs.{Lemmas.{HoldsAfter, FailsAfter, Lemma}, LemmaGrammar.{LemmaOk, setsVariable}}
 use Rattle.runs.specs.Runs.{Start, run}
-use Rattle.lemmas.specs.LemmaGrammar.{LemmaOk, setsVariable}
 use Rattle.frame.specs.Frame.{zeroOn, untouched}
 use Rattle.formula.specs.Formula.{False, And, Disabled, Then, follows}
 use Rattle.search.specs.Search.{Graph, count}
-use Rattle.abstraction.specs.Abstraction.{among, shown, successor, graph}
-use Rattle.abstraction.specs.Faithful.{Faithful}
+use Rattle.abstraction.specs.{Abstraction.{among, shown, successor, graph}, Faithful.{Faithful}}
 use Rattle.verdict.specs.Verdicts.{Finding, findings}
 use Rattle.sheet.specs.Sheets.{findingWord, Fits, Due, Sheet, Told}
 use Rattle.judge.specs.declared.Judged.the-variants.{Safe as IsSafe}
 use Rattle.little.specs.LittleEndian.{bytesOf, Below}
-use Rattle.show.specs.declared.Shown.the-variants.{Answered}
-use Rattle.show.specs.Show.{wordsIn, show, SafeShow}
-use Rattle.streams.specs.declared.Way.{Way}
-use Rattle.streams.specs.declared.Answer.{Answer}
-use Rattle.streams.specs.declared.Progress.the-variants.{Going, Whole}
-use Rattle.streams.specs.Streams.{mostTries, streamed, WholeOf}
+use Rattle.show.specs.{declared.Shown.the-variants.{Answered}, Show.{wordsIn, show, SafeShow}}
+use Rattle.streams.specs.{declared.Way.{Way}, declared.Answer.{Answer}, declared.Progress.the-variants.{Going, Whole}, Streams.{mostTries, streamed, WholeOf}}
 
 -- the words in a show's bytes are those whose bytes they are, and the other way
 pub words-in-bytes : (ws : List ℕ) → Below 4294967296 ws → wordsIn (bytesOf ws) ≡ ws
@@ -116,3 +106,13 @@ findings-few = Rattle.sheet.proofs.Most.findings-few
 pub nothing-missed : (p : Program) → WellFormed p → (ls : List Lemma) → Each (LemmaOk p) ls → (g : Graph) → Faithful p ls g → (s : List ℤ) → Start p s
     → (ks : List ℕ) → Each (λ k. k < length (p .actions)) ks → Each (Told p ls g) (run p ks s .states)
 nothing-missed = Rattle.findings.proofs.Missed.nothing-missed
+
+-- ---- request 3: read a row once
+-- for any list of words: the steps, fed the words one after the other, give what the grammar's reader of a row gives, from the same index: the row with the words that
+-- are left, the one that ended it the first of them, or the refusal
+pub row-in-steps : (vars : ℕ) → vars ≤ mostVariables → (i : ℕ) (ws : List ℕ) → fed (begun vars i) ws ≡ row vars ws i
+row-in-steps = Rattle.feed.proofs.Feeding.fed-row
+
+-- the list's end always decides: 2 before the ROW, and after it the row is complete
+pub end-decides : (h : Held) → rowStep h End .said ≡ cond (eqb (h .kept .taken) 0) (Refused (Missing (place (h .kept)))) Complete
+end-decides = Rattle.feed.proofs.Laws.end-decides

@@ -1,3 +1,3 @@
 pub mod Laws
-pub mod TermsLoop
+pub mod RowLoop
 pub mod RowsLoop

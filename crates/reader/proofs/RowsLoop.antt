@@ -1,4 +1,4 @@
--- A row from its first word, and rows one after the other.
+-- Rows one after the other.
 use mathlib.Core.Path.{_≡_, refl, sym, ap, _∙_}
 use mathlib.Core.List.{List, _∷_}
 use Prim.Native.Nat.{ℕ, suc, _+_, _-_, _≤_, _<_}
@@ -7,11 +7,10 @@ use native.Mathlib.Numerals.{add-one}
 use native.Mathlib.Nat.{sub-zero}
 use lib.ListN.{length, set, drop, length-set, length-append, length-drop}
 use lib.Seq.{sets, drop-append-seam, drop-drop}
-use Rattle.words.specs.Words.{ROW}
 use Rattle.words.specs.declared.Refusal.{Refusal}
 use Rattle.rows.specs.declared.Row.{Row}
-use Rattle.grammar.specs.Reading.{Read, got, refused, one, always, after, pure, times}
-use Rattle.grammar.specs.Grammar.{coefs, row, rowOf, constantOf, constantAllowed}
+use Rattle.grammar.specs.Reading.{Read, got, refused, after, pure, times}
+use Rattle.grammar.specs.Grammar.{row}
 use Rattle.grammar.proofs.ReadingLaws.{Taken}
 use Rattle.grammar.proofs.RowLaws.{row-codec}
 use Rattle.reader.specs.declared.Next.{Next}
@@ -20,15 +19,6 @@ use Rattle.reader.specs.declared.RowRead.{RowRead}
 use Rattle.reader.specs.declared.Rows.{Rows}
 use Rattle.reader.proofs.Laws.{next-refused, next-at}
 use Rattle.reader.specs.Results.{nextOf, rowRead, rowsFrom, rowsRead, zeroRows}
-
-module _ (vars : ℕ) (ws : List ℕ) (i : ℕ) where
-  pub row-refused : {r : Refusal} → one ROW always always constantAllowed ws i ≡ refused r → row vars ws i ≡ refused r
-  unfolding row
-  row-refused e = rw e refl
-
-  pub row-taken : {w k : ℕ} {us : List ℕ} → one ROW always always constantAllowed ws i ≡ got w us k → row vars ws i ≡ after (coefs vars 0 us k) (λ cs. pure (rowOf vars (constantOf w) cs))
-  unfolding row
-  row-taken e = rw e refl
 
 -- what was read behind an index leaves the words from the next index on
 module _ {A : Type 0} {e : A → List ℕ} {P : A → Type 0} (ws : List ℕ) {i j : ℕ} {a : A} {vs : List ℕ} (l : i ≤ length ws) (t : Taken e P (drop i ws) i a vs j) where

@@ -1,13 +1,18 @@
 // Reading words and rows.
 ghost use mathlib.Core.Path.{_≡_};
-ghost use mathlib.Core.Bool.{not};
-ghost use Prim.Native.Nat.{_+_, _<_, _≤_, _^_};
+ghost use mathlib.Core.List.{List};
+ghost use Prim.Native.Nat.{ℕ, _+_, _<_, _≤_, _^_};
 ghost use lib.ListN.{length, drop, getD};
-ghost use Rattle.grammar.specs.Reading.{one, begins, times, refused, after, pure};
-ghost use Rattle.rows.specs.Rows.{between};
-ghost use Rattle.grammar.specs.Grammar.{row, rowOf, coefs, coefficientAllowed, constantAllowed};
-ghost use Rattle.grammar.proofs.TermLaws.{termAllowed};
-ghost use Rattle.reader.specs.Results.{nextOf, rowRead, rowsRead};
+ghost use Rattle.grammar.specs.Reading.{one, begins, times, refused};
+ghost use Rattle.grammar.specs.Grammar.{row};
+ghost use Rattle.words.specs.declared.Refusal.the-variants.{Word as Missing};
+ghost use Rattle.feed.specs.Steps.{place, told, fed, begun};
+ghost use Rattle.feed.specs.Answers.{held};
+ghost use Rattle.reader.specs.Results.{nextOf, goesOn, rowRead, rowsRead};
+use feed::Answer;
+use feed::Fed;
+use feed::Kept;
+use feed::Said;
 use rows::Row;
 use words::Kind;
 use words::Refusal;
@@ -84,90 +89,69 @@ fn no_row(why: Refusal) -> RowRead
     }
 }
 
-// Is a from `low` to `high`?
-fn between(a: i64, low: i64, high: i64) -> bool
-    ensures { λ r. ⌜ r ≡ between low high a ⌝ }
+// Does the step want another word?
+fn goes_on(said: Said) -> bool
+    ensures { λ r. ⌜ r ≡ goesOn said ⌝ }
 {
-    if low <= a { a <= high } else { false }
-}
-
-// A coefficient from -1,000 to 1,000, not 0.
-fn coefficient_allowed(w: u32) -> bool
-    ensures { λ r. ⌜ r ≡ coefficientAllowed w ⌝ }
-{
-    if w % 65536 == 0 {
-        false
-    } else {
-        between(words::coefficient(w), -1000, 1000)
+    match said {
+        Said::GoOn => true,
+        Said::Complete => false,
+        Said::Refused(_) => false,
     }
 }
 
-// A TERM whose variable is from `low` on and known, with an allowed coefficient.
-fn term_allowed(w: u32, low: usize, vars: usize) -> bool
-    ensures { λ r. ⌜ r ≡ termAllowed low vars w ⌝ }
+// The row that the steps end with, or the refusal. None of them goes on at the list's end: were one to, a word would be missing.
+fn told(answer: Answer, coef: [i64; 8]) -> RowRead
+    requires { ⌜ place (answer .kept) < 2 ^ 64 ⌝ }
+    ensures { λ r. ⌜ ((ws : List ℕ) → r ≡ rowRead (told (answer .said) (held (answer .kept) coef) ws (refused (Missing (place (answer .kept)))))) ⌝ }
 {
-    let v = words::variable(w);
-    if v < low {
-        return false;
+    let kept = answer.kept;
+    let place = kept.from + kept.taken;
+    let said = answer.said;
+    match said {
+        Said::GoOn => no_row(Refusal::Word(place)),
+        Said::Complete => RowRead {
+            row: Row {
+                coef,
+                constant: kept.constant,
+            },
+            next: Next::At(place),
+        },
+        Said::Refused(why) => no_row(why),
     }
-    if vars <= v {
-        return false;
-    }
-    coefficient_allowed(w)
 }
 
-// The TERMs of a row after its ROW word, the first word of the part.
-fn read_terms(part: &[u32], base: usize, vars: usize, constant: i64) -> RowRead
-    requires { ⌜ (vars ≤ 8) × (1 ≤ length (now part)) × (base + length (now part) < 2 ^ 64) ⌝ }
-    ensures { λ r. ⌜ r ≡ rowRead (after (coefs vars 0 (drop 1 (now (part .entry))) (base + 1)) (λ cs. pure (rowOf vars constant cs))) ⌝ }
+// The row at the front of a part of the word list, which begins at the index `base` of the whole list: the loop that feeds the steps the part's words, each
+// once and in order, and then the end.
+fn read_row(part: &[u32], base: usize, vars: usize) -> RowRead
+    requires { ⌜ (vars ≤ 8) × (base + length (now part) + 1 < 2 ^ 64) ⌝ }
+    ensures { λ r. ⌜ r ≡ rowRead (fed (begun vars base) (now (part .entry))) ⌝ }
 {
+    let mut kept = Kept {
+        vars,
+        from: base,
+        taken: 0,
+        low: 0,
+        constant: 0,
+    };
     let mut coef = [0i64; 8];
-    let mut low: usize = 0;
-    let mut i: usize = 1;
-    while begins(part, i, Kind::TERM) {
-        let w = word_at(part, i);
-        let named = w / 65536 % 256 == 0;
-        let allowed = term_allowed(w, low, vars);
-        let next = read_word(part, i, base + i, Kind::TERM, named, true, allowed);
-        if let Next::Refused(why) = next {
-            return no_row(why);
+    let mut i: usize = 0;
+    while i < part.len() {
+        let answer = feed::step(kept, &mut coef, Fed::Word(part[i]));
+        let said = answer.said;
+        if !goes_on(said) {
+            return told(answer, coef);
         }
-        let v = words::variable(w);
-        coef[v] = words::coefficient(w);
-        low = v + 1;
+        kept = answer.kept;
         i += 1;
     }
-    RowRead {
-        row: Row { coef, constant },
-        next: Next::At(base + i),
-    }
+    told(feed::step(kept, &mut coef, Fed::End), coef)
 }
 
-// A constant from -1,000,000 to 1,000,000.
-fn constant_allowed(w: u32) -> bool
-    ensures { λ r. ⌜ r ≡ constantAllowed w ⌝ }
-{
-    between(words::constant(w), -1000000, 1000000)
-}
-
-// The row at the front of a part of the word list. The part begins at the index `base` of the whole list.
-fn read_row(part: &[u32], base: usize, vars: usize) -> RowRead
-    requires { ⌜ (vars ≤ 8) × (base + length (now part) < 2 ^ 64) ⌝ }
-    ensures { λ r. ⌜ r ≡ rowRead (row vars (now (part .entry)) base) ⌝ }
-{
-    let w = word_at(part, 0);
-    let allowed = constant_allowed(w);
-    let next = read_word(part, 0, base, Kind::ROW, true, true, allowed);
-    if let Next::Refused(why) = next {
-        return no_row(why);
-    }
-    read_terms(part, base, vars, words::constant(w))
-}
-
-// The row that begins at an index: the part of the list from there on goes to the row reader.
+// The row that begins at an index: the part of the list from there on goes to the row reader. What the grammar says is what the steps give, fed that part.
 pub fn row_at(words: &[u32], at: usize, vars: usize) -> RowRead
     requires { ⌜ (vars ≤ 8) × (at ≤ length (now words)) ⌝ }
-    ensures { λ r. ⌜ r ≡ rowRead (row vars (drop at (now (words .entry))) at) ⌝ }
+    ensures { λ r. ⌜ (r ≡ rowRead (row vars (drop at (now (words .entry))) at)) × (r ≡ rowRead (fed (begun vars at) (drop at (now (words .entry))))) ⌝ }
 {
     read_row(&words[at..], at, vars)
 }

@@ -71,7 +71,7 @@ returns-2 : tie.Need-returns-2
 returns-2 c =
     let s = c .before .before .before .before .before .before .before .before .before .before .before .before .args in
     let e = taken (c .before .before .before .before .before) .1 in
-    let f = row-read-refused _ (c .before .before .before .before .row-at .ensures) (c .before .before .after .given .1) in
+    let f = row-read-refused _ (c .before .before .before .before .row-at .ensures .0) (c .before .before .after .given .1) in
     c .no-set2 .ensures ∙ rw (set-row-refused (s .vars) (s .low) (drop (s .at) (s .words .now)) (s .at) e f) refl
 
 returns-3 : tie.Need-returns-3
@@ -79,7 +79,7 @@ returns-3 c =
     let q = c .before .before .before .before .before .before .before .before .before in
     let s = q .before .before .before .args in
     let e = taken (c .before .before .before .before .before) .1 in
-    let (us, f) = row-read-at _ (c .before .before .before .before .row-at .ensures) (c .before .before .after2 .given .1) in
+    let (us, f) = row-read-at _ (c .before .before .before .before .row-at .ensures .0) (c .before .before .after2 .given .1) in
     rw (q .count .ensures, q .before .word-at .ensures, set-taken (s .vars) (s .low) (drop (s .at) (s .words .now)) (s .at) e f) refl
 
 pub read-set-spec : {M : Type 1} → statement M

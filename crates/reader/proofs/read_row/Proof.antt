@@ -1,81 +1,115 @@
-use Rattle.reader.proofs.RowsLoop.{row-refused, row-taken}
-use mathlib.Core.Path.{_≡_, refl, sym, _∙_}
-use mathlib.Core.Bool.{true}
-use Prim.Native.Nat.{_+_, _<_}
+use mathlib.Core.Path.{_≡_, refl, sym, ap, _∙_}
+use Prim.Native.Nat.{_+_, _-_, _≤_, _<_, _^_}
 use native.Mathlib.Omega.{arith}
 use lib.ListN.{length, getD, drop}
-use mir.Syntax.{w64}
-use mir.Val.{SFits}
-use mir.Facts.{toZ-ofZ}
-use Rattle.words.specs.Words.{ROW}
-use Rattle.grammar.specs.Reading.{one, always, got}
-use Rattle.grammar.specs.Grammar.{constantAllowed}
-use Rattle.reader.specs.Results.{nextOf}
-use Rattle.reader.proofs.Laws.{head-refused, head-taken}
+use Rattle.integers.proofs.Tests.{not-true, not-false}
+use Rattle.feed.specs.declared.Fed.the-variants.{Word}
+use Rattle.feed.specs.Steps.{rowStep}
+use Rattle.feed.specs.Answers.{held, stepped}
+use Rattle.reader.specs.Results.{rowRead}
+use Rattle.reader.proofs.RowLoop.{RowLoop, row-begun, row-place, row-near, row-turn, row-decided, row-ended}
 use borrow.Author.Needs.{needs}
 use Rattle.reader.proofs.read_row.Statement.{statement}
 use Rattle.reader.proofs.read_row.Tie as tie
 
-next-is : (c : tie.After-read-word) → let s = c .before .before .before .before .args in let w = getD (s .part .now) 0 0 in
-    c .read-word .result ≡ nextOf (one ROW (λ x. true) (λ x. true) (λ x. constantAllowed w) (s .part .now) (s .base))
-next-is c = c .read-word .ensures ∙ rw (c .before .constant-allowed .ensures, c .before .before .word-at .ensures) refl
+abbrev Inv-loop : tie.InvT-loop
+Inv-loop part base vars kept₀ coef₀ i₀ kept coef i = (vars ≤ 8) × RowLoop part base vars kept coef i
 
-taken : (c : tie.After-enum-told) → let s = c .before .before .before .before .before .before .args in
-    (0 < length (s .part .now)) × (one ROW always always constantAllowed (s .part .now) (s .base) ≡ got (getD (s .part .now) 0 0) (drop 1 (s .part .now)) (s .base + 1))
-taken c =
-    let s = c .before .before .before .before .before .before .args in
-    let (l, place, e) = head-taken ROW always always constantAllowed (s .part .now) 0 (s .base) _ (sym (next-is (c .before .before)) ∙ c .enum-told .given .1) in
-    (l, e)
+abbrev μ-loop : tie.MeasureT-loop
+μ-loop part base vars kept₀ coef₀ i₀ kept coef i = length part - i
 
-word-at-requires : tie.Need-word-at-requires
-word-at-requires c κs = search needs
+-- what the step gave, by its definition
+step-is : (c : tie.After-step Inv-loop μ-loop) → let l = c .before .before .before .before .loop in
+    stepped (c .step .result) (c .step .last .1 .0) ≡ rowStep (held (l .kept) (l .coef)) (Word (getD (c .before .before .before .before .before .before .args .part .now) (l .i) 0))
+step-is c = c .step .ensures
 
-constant-allowed-requires : tie.Need-constant-allowed-requires
-constant-allowed-requires c κs = search needs
+loop-holds : tie.Need-loop-holds Inv-loop μ-loop
+loop-holds c = (search needs, row-begun _ _ _)
 
-read-word-requires : tie.Need-read-word-requires
-read-word-requires c κs = λ l. omega arith
+mul-t9 : tie.Need-mul-t9 Inv-loop μ-loop
+mul-t9 c = search needs
 
-enum-known-next : tie.Need-enum-known-next
-enum-known-next c = search needs
+shared-slice-read-t13 : tie.Need-shared-slice-read-t13 Inv-loop μ-loop
+shared-slice-read-t13 c = search needs
 
-no-row-requires : tie.Need-no-row-requires
-no-row-requires c κs = search needs
+step-requires : tie.Need-step-requires Inv-loop μ-loop
+step-requires c κs =
+    let p = c .before .before .before in
+    let t = p .loop .inv in
+    let few : p .loop .kept .vars ≤ 8 = rw (t .1 .known) (t .0) in
+    let room = p .before .before .pre .1 in
+    (few, omega (arith, row-place _ _ _ (t .1), t .1 .here, room))
 
-returns : tie.Need-returns
+goes-on-requires : tie.Need-goes-on-requires Inv-loop μ-loop
+goes-on-requires c κs = search needs
+
+told-requires : tie.Need-told-requires Inv-loop μ-loop
+told-requires c κs =
+    let p = c .before .before in
+    let t = p .before .before .before .before .loop .inv .1 in
+    let room = p .before .before .before .before .before .before .pre .1 in
+    let more : p .before .before .before .before .loop .i < length (p .before .before .before .before .before .before .args .part .now) = search needs in
+    omega (arith, row-near _ _ _ t _ _ _ (step-is p), more, room)
+
+returns : tie.Need-returns Inv-loop μ-loop
 returns c =
-    let f = c .before .before .before .before .before .before .before .before in
-    let e = head-refused ROW always always constantAllowed (f .args .part .now) 0 (f .args .base) _ (sym (next-is (c .before .before .before .before)) ∙ c .before .before .next .given .1) in
-    c .no-row .ensures ∙ rw (row-refused (f .args .vars) (f .args .part .now) (f .args .base) e) refl
+    let p = c .before .before .before in
+    let l = p .before .before .before .before in
+    c .told .ensures (drop (l .loop .i) (l .before .before .args .part .now)) ∙ ap rowRead (row-decided _ _ _ (l .loop .inv .1) _ _ (search needs) (step-is p)
+    (sym (c .before .before .goes-on .ensures) ∙ not-true _ (c .before .if1 .taken)))
 
-enum-told : tie.Need-enum-told
-enum-told c = search needs
+add-i : tie.Need-add-i Inv-loop μ-loop
+add-i c =
+    let l = c .before .before .before .before .before .before .before in
+    let room = l .before .before .pre .1 in
+    omega (arith, l .loop .inv .1 .here, room)
 
-constant-requires : tie.Need-constant-requires
-constant-requires c κs = search needs
+loop-less : tie.Need-loop-less Inv-loop μ-loop
+loop-less c =
+    search needs
 
-read-terms-requires : tie.Need-read-terms-requires
-read-terms-requires c κs =
-    let t = taken (c .before) in
-    (search needs, t .0, search needs)
+loop-again : tie.Need-loop-again Inv-loop μ-loop
+loop-again c =
+    let p = c .before .before .before in
+    let t = p .before .before .before .before .loop .inv in
+    (t .0, row-turn _ _ _ (t .1) _ _ (search needs) (step-is p) (sym (c .before .before .goes-on .ensures) ∙ not-false _ (c .before .if1 .left)))
 
-returns-2 : tie.Need-returns-2
+step-requires-2 : tie.Need-step-requires-2 Inv-loop μ-loop
+step-requires-2 c κs =
+    let p = c .before .before in
+    let t = p .loop .inv in
+    let few : p .loop .kept .vars ≤ 8 = rw (t .1 .known) (t .0) in
+    let room = p .before .before .pre .1 in
+    (few, omega (arith, row-place _ _ _ (t .1), t .1 .here, room))
+
+told-requires-2 : tie.Need-told-requires-2 Inv-loop μ-loop
+told-requires-2 c κs =
+    let l = c .before .before .before in
+    let t = l .loop .inv .1 in
+    let room = l .before .before .pre .1 in
+    omega (arith, row-near _ _ _ t _ _ _ (c .step2 .ensures), t .here, room)
+
+returns-2 : tie.Need-returns-2 Inv-loop μ-loop
 returns-2 c =
-    let f : SFits w64 (c .before .constant .result) = search needs in
-    let s = c .before .before .before .before .before .before .before .before .args in
-    c .read-terms .ensures ∙ rw (toZ-ofZ f, c .before .constant .ensures, c .before .before .before .before .before .before .word-at .ensures, row-taken (s .vars) (s .part .now) (s .base) (taken (c .before .before) .1)) refl
+    let l = c .before .before .before .before in
+    c .told2 .ensures (drop (l .loop .i) (l .before .before .args .part .now)) ∙ ap rowRead (row-ended _ _ _ (l .loop .inv .1) _ _ (search needs) (c .before .step2 .ensures))
 
 pub read-row-spec : {M : Type 1} → statement M
 read-row-spec =
     tie.close
     (tie.spec
-    word-at-requires
-    constant-allowed-requires
-    read-word-requires
-    enum-known-next
-    no-row-requires
+    Inv-loop
+    μ-loop
+    loop-holds
+    mul-t9
+    shared-slice-read-t13
+    step-requires
+    goes-on-requires
+    told-requires
     returns
-    enum-told
-    constant-requires
-    read-terms-requires
+    add-i
+    loop-less
+    loop-again
+    step-requires-2
+    told-requires-2
     returns-2)

@@ -26,7 +26,7 @@ no-rows-requires c κs = search needs
 returns : tie.Need-returns Inv-loop μ-loop
 returns c =
     let l = c .before .before .before .before .before .before .loop .inv in
-    let e = row-read-refused _ (c .before .before .before .before .row-at .ensures) (c .before .before .next .given .1) in
+    let e = row-read-refused _ (c .before .before .before .before .row-at .ensures .0) (c .before .before .next .given .1) in
     c .no-rows .ensures ∙ rows-refused _ _ _ _ (l .0) (l .2) (search needs) e
 
 enum-known-next-2 : tie.Need-enum-known-next-2 Inv-loop μ-loop
@@ -47,7 +47,7 @@ loop-less c = search needs
 loop-again : tie.Need-loop-again Inv-loop μ-loop
 loop-again c =
     let l = c .before .before .before .before .before .before .loop .inv in
-    let (us, e) = row-read-at _ (c .before .before .before .before .row-at .ensures) (c .before .before .next2 .given .1) in
+    let (us, e) = row-read-at _ (c .before .before .before .before .row-at .ensures .0) (c .before .before .next2 .given .1) in
     (l .0, l .1, rows-turn _ _ _ _ (l .0) (l .2) (search needs) e)
 
 returns-2 : tie.Need-returns-2 Inv-loop μ-loop

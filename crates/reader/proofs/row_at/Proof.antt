@@ -1,8 +1,11 @@
-use mathlib.Core.Path.{_≡_}
+use mathlib.Core.Path.{_≡_, ap, _∙_}
 use Prim.Native.Nat.{_-_}
 use native.Mathlib.Omega.{arith}
 use lib.ListN.{length, take, drop, length-drop}
 use lib.Seq.{take-all}
+use Rattle.feed.specs.Steps.{fed, begun}
+use Rattle.feed.proofs.Feeding.{fed-row}
+use Rattle.reader.specs.Results.{rowRead}
 use borrow.Author.Needs.{needs}
 use Rattle.reader.proofs.row_at.Statement.{statement}
 use Rattle.reader.proofs.row_at.Tie as tie
@@ -26,8 +29,10 @@ returns : tie.Need-returns
 returns c =
     let ws = c .before .before .before .args .words .now in
     let i = c .before .before .before .args .at in
+    let vars = c .before .before .before .args .vars in
     let whole : take (length ws - i) (drop i ws) ≡ drop i ws = take-all (length ws - i) (drop i ws) (simp length-drop (omega arith)) in
-    rw whole at (c .read-row .ensures)
+    let steps : c .read-row .result ≡ rowRead (fed (begun vars i) (drop i ws)) = rw whole at (c .read-row .ensures) in
+    (steps ∙ ap rowRead (fed-row vars (c .before .before .before .pre .0) i (drop i ws)), steps)
 
 pub row-at-spec : {M : Type 1} → statement M
 row-at-spec =

@@ -3,8 +3,8 @@ use Prim.Native.Nat.{_<_, _≤_}
 use borrow.Author.Tests.{le-leb, lt-leb, le-ltb, lt-ltb}
 use Rattle.words.specs.Words.{bits}
 use borrow.Author.Needs.{needs}
-use Rattle.reader.proofs.term_allowed.Statement.{statement}
-use Rattle.reader.proofs.term_allowed.Tie as tie
+use Rattle.feed.proofs.term_allowed.Statement.{statement}
+use Rattle.feed.proofs.term_allowed.Tie as tie
 
 variable-requires : tie.Need-variable-requires
 variable-requires c κs = search needs

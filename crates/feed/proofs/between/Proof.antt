@@ -2,8 +2,8 @@ use mathlib.Core.Path.{_≡_, refl}
 use mathlib.Core.Bool.{true, false}
 use lib.Signed.{leZ}
 use mir.Facts.{toZ-ofZ}
-use Rattle.reader.proofs.between.Statement.{statement}
-use Rattle.reader.proofs.between.Tie as tie
+use Rattle.feed.proofs.between.Statement.{statement}
+use Rattle.feed.proofs.between.Tie as tie
 
 low-yes : (c : tie.Then1) → leZ (c .before .args .low) (c .before .args .a) ≡ true
 low-yes c = rw (toZ-ofZ (c .before .fits .low), toZ-ofZ (c .before .fits .a)) at (c .if1 .taken)

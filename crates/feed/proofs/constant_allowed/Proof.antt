@@ -3,8 +3,8 @@ use mir.Syntax.{w64}
 use mir.Val.{SFits}
 use mir.Facts.{toZ-ofZ}
 use borrow.Author.Needs.{needs}
-use Rattle.reader.proofs.constant_allowed.Statement.{statement}
-use Rattle.reader.proofs.constant_allowed.Tie as tie
+use Rattle.feed.proofs.constant_allowed.Statement.{statement}
+use Rattle.feed.proofs.constant_allowed.Tie as tie
 
 constant-requires : tie.Need-constant-requires
 constant-requires c κs = search needs

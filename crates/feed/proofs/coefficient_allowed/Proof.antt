@@ -6,8 +6,8 @@ use mir.Val.{SFits}
 use mir.Facts.{toZ-ofZ}
 use Rattle.words.specs.Words.{bits}
 use borrow.Author.Needs.{needs}
-use Rattle.reader.proofs.coefficient_allowed.Statement.{statement}
-use Rattle.reader.proofs.coefficient_allowed.Tie as tie
+use Rattle.feed.proofs.coefficient_allowed.Statement.{statement}
+use Rattle.feed.proofs.coefficient_allowed.Tie as tie
 
 coefficient-requires : tie.Need-coefficient-requires
 coefficient-requires c κs = search needs

@@ -1,0 +1,3 @@
+pub mod Laws
+pub mod Feeding
+pub mod Worked
