@@ -20,8 +20,8 @@ def functions():
 
 def faults(made):
     steps = [name for name in made if name.startswith("feed::")]
-    if "feed::step" not in steps or "reader::read_row" not in made:
-        yield "feed::step and reader::read_row are not there"
+    if "feed::row_step" not in steps or "reader::read_row" not in made:
+        yield "feed::row_step and reader::read_row are not there"
         return
     for name in steps:
         if LIST in made[name]:

@@ -7,7 +7,7 @@ use native.Mathlib.Omega.{arith}
 use native.Mathlib.Nat.{sub-zero, zero-add}
 use lib.Dec.{eqb}
 use lib.IntN.{ℤ, pos}
-use lib.ListN.{length, getD, set, drop, replicate, length-set}
+use lib.ListN.{length, getD, set, drop, replicate}
 use lib.Seq.{sets, sets-eq, set-getD, getD-set-other}
 use borrow.Author.Tests.{eqb-true}
 use Rattle.words.specs.Words.{bits, kindOf, ROW, TERM}

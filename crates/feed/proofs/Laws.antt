@@ -19,7 +19,7 @@ use Rattle.feed.specs.declared.Fed.{Fed}
 use Rattle.feed.specs.declared.Fed.the-variants.{Word, End}
 use Rattle.feed.specs.declared.Said.the-variants.{GoOn, Complete, Refused}
 use Rattle.feed.specs.declared.Kept.{Kept}
-use Rattle.feed.specs.Steps.{Held, Step, place, seen, read, afterRow, afterTerm, rowStep}
+use Rattle.feed.specs.Steps.{Held, place, seen, read, afterRow, afterTerm, rowStep}
 use Rattle.feed.specs.Answers.{held}
 
 -- the variable of an allowed TERM

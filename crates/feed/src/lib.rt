@@ -9,7 +9,7 @@ ghost use Rattle.grammar.proofs.TermLaws.{termAllowed};
 ghost use Rattle.feed.specs.declared.Fed.the-variants.{Word, End};
 ghost use Rattle.feed.specs.declared.Said.the-variants.{Refused};
 ghost use Rattle.feed.specs.Steps.{place, rowStep};
-ghost use Rattle.feed.specs.Answers.{held, stepped};
+ghost use Rattle.feed.specs.Answers.{held, stepped, goesOn};
 use words::Kind;
 use words::Refusal;
 
@@ -24,6 +24,17 @@ pub enum Said {
     GoOn,
     Complete,
     Refused(Refusal),
+}
+
+// Does the step want another word?
+pub fn goes_on(said: Said) -> bool
+    ensures { λ r. ⌜ r ≡ goesOn said ⌝ }
+{
+    match said {
+        Said::GoOn => true,
+        Said::Complete => false,
+        Said::Refused(_) => false,
+    }
 }
 
 // What is kept of the words before: how many variables there are, the index where the row begins, how many of its words were taken, the least variable that the
@@ -159,7 +170,7 @@ fn at_end(kept: Kept) -> Answer
 }
 
 // One step. It writes the coefficient of a TERM, and reads none.
-pub fn step(kept: Kept, coef: &mut [i64; 8], fed: Fed) -> Answer
+pub fn row_step(kept: Kept, coef: &mut [i64; 8], fed: Fed) -> Answer
     requires { ⌜ (kept .vars ≤ 8) × (place kept + 1 < 2 ^ 64) ⌝ }
     ensures { λ r. ⌜ stepped r (now (coef .exit)) ≡ rowStep (held kept (now (coef .entry))) fed ⌝ }
 {

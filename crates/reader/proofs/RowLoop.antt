@@ -18,9 +18,8 @@ use Rattle.feed.specs.declared.Said.the-variants.{GoOn, Complete, Refused}
 use Rattle.feed.specs.declared.Kept.{Kept}
 use Rattle.feed.specs.declared.Answer.{Answer}
 use Rattle.feed.specs.Steps.{Held, Step, place, told, rowStep, fed, begun}
-use Rattle.feed.specs.Answers.{held, stepped}
+use Rattle.feed.specs.Answers.{held, stepped, goesOn}
 use Rattle.feed.proofs.Laws.{steps-near}
-use Rattle.reader.specs.Results.{goesOn, rowRead}
 
 -- what is told once a step has decided does not hang on what would come
 told-same : (x : Said) (h : Held) (ws : List ℕ) (m n : Read Row) → goesOn x ≡ false → told x h ws m ≡ told x h ws n

@@ -8,7 +8,7 @@ ghost use Rattle.grammar.specs.Grammar.{row};
 ghost use Rattle.words.specs.declared.Refusal.the-variants.{Word as Missing};
 ghost use Rattle.feed.specs.Steps.{place, told, fed, begun};
 ghost use Rattle.feed.specs.Answers.{held};
-ghost use Rattle.reader.specs.Results.{nextOf, goesOn, rowRead, rowsRead};
+ghost use Rattle.reader.specs.Results.{nextOf, rowRead, rowsRead};
 use feed::Answer;
 use feed::Fed;
 use feed::Kept;
@@ -89,17 +89,6 @@ fn no_row(why: Refusal) -> RowRead
     }
 }
 
-// Does the step want another word?
-fn goes_on(said: Said) -> bool
-    ensures { λ r. ⌜ r ≡ goesOn said ⌝ }
-{
-    match said {
-        Said::GoOn => true,
-        Said::Complete => false,
-        Said::Refused(_) => false,
-    }
-}
-
 // The row that the steps end with, or the refusal. None of them goes on at the list's end: were one to, a word would be missing.
 fn told(answer: Answer, coef: [i64; 8]) -> RowRead
     requires { ⌜ place (answer .kept) < 2 ^ 64 ⌝ }
@@ -137,15 +126,15 @@ fn read_row(part: &[u32], base: usize, vars: usize) -> RowRead
     let mut coef = [0i64; 8];
     let mut i: usize = 0;
     while i < part.len() {
-        let answer = feed::step(kept, &mut coef, Fed::Word(part[i]));
+        let answer = feed::row_step(kept, &mut coef, Fed::Word(part[i]));
         let said = answer.said;
-        if !goes_on(said) {
+        if !feed::goes_on(said) {
             return told(answer, coef);
         }
         kept = answer.kept;
         i += 1;
     }
-    told(feed::step(kept, &mut coef, Fed::End), coef)
+    told(feed::row_step(kept, &mut coef, Fed::End), coef)
 }
 
 // The row that begins at an index: the part of the list from there on goes to the row reader. What the grammar says is what the steps give, fed that part.

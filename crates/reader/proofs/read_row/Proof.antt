@@ -1,5 +1,5 @@
-use mathlib.Core.Path.{_≡_, refl, sym, ap, _∙_}
-use Prim.Native.Nat.{_+_, _-_, _≤_, _<_, _^_}
+use mathlib.Core.Path.{_≡_, sym, ap, _∙_}
+use Prim.Native.Nat.{_-_, _≤_, _<_}
 use native.Mathlib.Omega.{arith}
 use lib.ListN.{length, getD, drop}
 use Rattle.integers.proofs.Tests.{not-true, not-false}
@@ -19,9 +19,9 @@ abbrev μ-loop : tie.MeasureT-loop
 μ-loop part base vars kept₀ coef₀ i₀ kept coef i = length part - i
 
 -- what the step gave, by its definition
-step-is : (c : tie.After-step Inv-loop μ-loop) → let l = c .before .before .before .before .loop in
-    stepped (c .step .result) (c .step .last .1 .0) ≡ rowStep (held (l .kept) (l .coef)) (Word (getD (c .before .before .before .before .before .before .args .part .now) (l .i) 0))
-step-is c = c .step .ensures
+step-is : (c : tie.After-row-step Inv-loop μ-loop) → let l = c .before .before .before .before .loop in
+    stepped (c .row-step .result) (c .row-step .last .1 .0) ≡ rowStep (held (l .kept) (l .coef)) (Word (getD (c .before .before .before .before .before .before .args .part .now) (l .i) 0))
+step-is c = c .row-step .ensures
 
 loop-holds : tie.Need-loop-holds Inv-loop μ-loop
 loop-holds c = (search needs, row-begun _ _ _)
@@ -32,8 +32,8 @@ mul-t9 c = search needs
 shared-slice-read-t13 : tie.Need-shared-slice-read-t13 Inv-loop μ-loop
 shared-slice-read-t13 c = search needs
 
-step-requires : tie.Need-step-requires Inv-loop μ-loop
-step-requires c κs =
+row-step-requires : tie.Need-row-step-requires Inv-loop μ-loop
+row-step-requires c κs =
     let p = c .before .before .before in
     let t = p .loop .inv in
     let few : p .loop .kept .vars ≤ 8 = rw (t .1 .known) (t .0) in
@@ -74,8 +74,8 @@ loop-again c =
     let t = p .before .before .before .before .loop .inv in
     (t .0, row-turn _ _ _ (t .1) _ _ (search needs) (step-is p) (sym (c .before .before .goes-on .ensures) ∙ not-false _ (c .before .if1 .left)))
 
-step-requires-2 : tie.Need-step-requires-2 Inv-loop μ-loop
-step-requires-2 c κs =
+row-step-requires-2 : tie.Need-row-step-requires-2 Inv-loop μ-loop
+row-step-requires-2 c κs =
     let p = c .before .before in
     let t = p .loop .inv in
     let few : p .loop .kept .vars ≤ 8 = rw (t .1 .known) (t .0) in
@@ -87,12 +87,12 @@ told-requires-2 c κs =
     let l = c .before .before .before in
     let t = l .loop .inv .1 in
     let room = l .before .before .pre .1 in
-    omega (arith, row-near _ _ _ t _ _ _ (c .step2 .ensures), t .here, room)
+    omega (arith, row-near _ _ _ t _ _ _ (c .row-step2 .ensures), t .here, room)
 
 returns-2 : tie.Need-returns-2 Inv-loop μ-loop
 returns-2 c =
     let l = c .before .before .before .before in
-    c .told2 .ensures (drop (l .loop .i) (l .before .before .args .part .now)) ∙ ap rowRead (row-ended _ _ _ (l .loop .inv .1) _ _ (search needs) (c .before .step2 .ensures))
+    c .told2 .ensures (drop (l .loop .i) (l .before .before .args .part .now)) ∙ ap rowRead (row-ended _ _ _ (l .loop .inv .1) _ _ (search needs) (c .before .row-step2 .ensures))
 
 pub read-row-spec : {M : Type 1} → statement M
 read-row-spec =
@@ -103,13 +103,13 @@ read-row-spec =
     loop-holds
     mul-t9
     shared-slice-read-t13
-    step-requires
+    row-step-requires
     goes-on-requires
     told-requires
     returns
     add-i
     loop-less
     loop-again
-    step-requires-2
+    row-step-requires-2
     told-requires-2
     returns-2)

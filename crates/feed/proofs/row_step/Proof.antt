@@ -1,6 +1,6 @@
 use borrow.Author.Needs.{needs}
-use Rattle.feed.proofs.step.Statement.{statement}
-use Rattle.feed.proofs.step.Tie as tie
+use Rattle.feed.proofs.row_step.Statement.{statement}
+use Rattle.feed.proofs.row_step.Tie as tie
 
 enum-known-fed : tie.Need-enum-known-fed
 enum-known-fed c = search needs
@@ -26,8 +26,8 @@ returns-2 c = rw (c .before .before .before .before .before .fed .given .1) (c .
 returns-3 : tie.Need-returns-3
 returns-3 c = rw (c .before .enum-told .given .1) (c .at-end .ensures _)
 
-pub step-spec : {M : Type 1} → statement M
-step-spec =
+pub row-step-spec : {M : Type 1} → statement M
+row-step-spec =
     tie.close
     (tie.spec
     enum-known-fed
