@@ -78,10 +78,10 @@ filled-row vars k (refused r) few long = refl
 
 -- ---- after the ROW
 -- the record stands for the coefficients below `low`
-pub record Going (k : Kept) (c : List ℤ) : Type 0 where
-  pub some : 0 < k .taken
-  pub room : k .low ≤ k .vars
-  pub zeros : ZeroFrom c (k .low)
+record Going (k : Kept) (c : List ℤ) : Type 0 where
+  some : 0 < k .taken
+  room : k .low ≤ k .vars
+  zeros : ZeroFrom c (k .low)
 
 abbrev awaited : Kept → List ℤ → List ℕ → Read Row
 awaited k c ws = filled c (k .low) (k .constant) (coefs (k .vars - k .low) (k .low) ws (place k))

@@ -7,8 +7,8 @@
 --   findings::findings(ws, ls, g, f)    r, g and f at exit are those of listing ws ls g f; SheetOf of r and both lists; r ≡ All 0 → SafeOf (read ws);
 --                                       Agrees with Judge's answer, and g at exit is Judge's                        crates/findings/src/lib.rt
 --   exports::bnv_findings(..)           the same, r as the record of numbers findingsOf                             crates/exports/src/lib.rt
---   reader::row_at(words, at, vars)     r ≡ rowRead (row vars (drop at words) at) and r ≡ rowRead (fed (begun vars at) (drop at words)),
---                                       where vars ≤ 8 and at ≤ length words                                        crates/reader/src/lib.rt
+--   reader::row_at(words, at, vars)     where vars ≤ 8 and at ≤ length words: r has the row and where reading goes on, or the refusal, of
+--                                       row vars (drop at words) at, and of fed (begun vars at) (drop at words)     crates/reader/src/lib.rt
 --   streams::next(way, room, at, a)     r ≡ next way room at a                                                      crates/streams/src/lib.rt
 use mathlib.Core.{Path.{_≡_}, Bool.{true, false, cond}, Logic.{_⊎_, _↔_}, List.{List, _∷_, _++_, map, List·Memᴰ}}
 use Prim.Native.Nat.{ℕ, _+_, _%_, _^_, _≤_, _<_}

@@ -2,7 +2,7 @@
 use mathlib.Core.Path.{_≡_, refl, sym, ap, _∙_}
 use mathlib.Core.Bool.{true, false}
 use mathlib.Core.List.{List, [], _∷_}
-use Prim.Native.Nat.{ℕ, suc, _+_, _≤_, _<_}
+use Prim.Native.Nat.{ℕ, suc, _+_, _^_, _≤_, _<_}
 use native.Mathlib.Omega.{arith}
 use native.Mathlib.Numerals.{add-one}
 use lib.IntN.{ℤ, pos}
@@ -44,9 +44,9 @@ module _ (ws : List ℕ) (base vars : ℕ) where
   pub row-begun : RowLoop ws base vars (begun vars base .kept) (replicate 8 (pos 0)) 0
   row-begun = record { here = omega arith; known = refl; begins = refl; taken = omega arith; same = refl }
 
-  -- the index of the next word
-  pub row-place : {k : Kept} {c : List ℤ} {i : ℕ} → RowLoop ws base vars k c i → place k ≤ base + i
-  row-place t = omega (arith, t .begins, t .taken)
+  -- what the step asks of the record
+  pub row-asks : {k : Kept} {c : List ℤ} {i : ℕ} → vars ≤ 8 → base + length ws + 1 < 2 ^ 64 → RowLoop ws base vars k c i → (k .vars ≤ 8) × (place k + 1 < 2 ^ 64)
+  row-asks few room t = (rw (t .known) few, omega (arith, room, t .here, t .begins, t .taken))
 
   module _ {k : Kept} {c : List ℤ} {i : ℕ} (t : RowLoop ws base vars k c i) (a : Answer) (d : List ℤ) where
     pub row-near : (f : Fed) → stepped a d ≡ rowStep (held k c) f → place (a .kept) ≤ base + i + 1

@@ -137,7 +137,7 @@ fn read_row(part: &[u32], base: usize, vars: usize) -> RowRead
     told(feed::row_step(kept, &mut coef, Fed::End), coef)
 }
 
-// The row that begins at an index: the part of the list from there on goes to the row reader. What the grammar says is what the steps give, fed that part.
+// The row that begins at an index: the part of the list from there on goes to the row reader. It is the grammar's row, and what the steps give, fed that part.
 pub fn row_at(words: &[u32], at: usize, vars: usize) -> RowRead
     requires { ⌜ (vars ≤ 8) × (at ≤ length (now words)) ⌝ }
     ensures { λ r. ⌜ (r ≡ rowRead (row vars (drop at (now (words .entry))) at)) × (r ≡ rowRead (fed (begun vars at) (drop at (now (words .entry))))) ⌝ }

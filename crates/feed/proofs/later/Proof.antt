@@ -19,6 +19,9 @@ use Rattle.feed.proofs.later.Tie as tie
 kind-is : (c : tie.After-is) → c .is .result ≡ eqb (kindOf (c .before .before .args .w)) TERM
 kind-is c = c .is .ensures ∙ rw (c .before .of .ensures) refl
 
+is-term : (c : tie.Else1) → eqb (kindOf (c .before .before .before .args .w)) TERM ≡ true
+is-term c = sym (kind-is (c .before)) ∙ not-false _ (c .if1 .left)
+
 allowed : (c : tie.After-variable) → let s = c .before .before .before .before .before .before .before .before .args in termAllowed (s .kept .low) (s .kept .vars) (s .w) ≡ true
 allowed c = sym (c .before .before .term-allowed .ensures) ∙ not-false _ (c .before .if3 .left)
 
@@ -50,7 +53,7 @@ refused-requires c κs = search needs
 returns-2 : tie.Need-returns-2
 returns-2 c =
     let s = c .before .before .before .before .before .before in
-    rw (c .refused .ensures) (sym (unnamed-term (s .args .kept) (s .args .coef .now) (s .pre .0) (s .args .w) (sym (kind-is (c .before .before .before .before)) ∙ not-false _ (c .before .before .before .if1 .left))
+    rw (c .refused .ensures) (sym (unnamed-term (s .args .kept) (s .args .coef .now) (s .pre .0) (s .args .w) (is-term (c .before .before .before))
     (ne-eqb _ _ (c .before .if2 .taken))))
 
 term-allowed-requires : tie.Need-term-allowed-requires
@@ -62,7 +65,7 @@ refused-requires-2 c κs = search needs
 returns-3 : tie.Need-returns-3
 returns-3 c =
     let s = c .before .before .before .before .before .before .before .before in
-    rw (c .refused2 .ensures) (sym (bad-term (s .args .kept) (s .args .coef .now) (s .pre .0) (s .args .w) (sym (kind-is (c .before .before .before .before .before .before)) ∙ not-false _ (c .before .before .before .before .before .if1 .left))
+    rw (c .refused2 .ensures) (sym (bad-term (s .args .kept) (s .args .coef .now) (s .pre .0) (s .args .w) (is-term (c .before .before .before .before .before))
     (eq-eqb (bits 23 16 (s .args .w)) 0 (c .before .before .before .if2 .left)) (sym (c .before .before .term-allowed .ensures) ∙ not-true _ (c .before .if3 .taken))))
 
 variable-requires : tie.Need-variable-requires
@@ -89,7 +92,7 @@ returns-4 c =
     let s = d .before .before .before .before .before .before .before .before in
     let f : SFits w64 (c .before .before .coefficient .result) = search needs in
     let g : SFits w64 (s .args .kept .constant) = search needs in
-    written-term (s .args .kept) (s .args .coef .now) (s .pre .0) (s .args .w) (sym (kind-is (d .before .before .before .before .before .before)) ∙ not-false _ (d .before .before .before .before .before .if1 .left))
+    written-term (s .args .kept) (s .args .coef .now) (s .pre .0) (s .args .w) (is-term (d .before .before .before .before .before))
     _ _ _ _ _ (eq-eqb (bits 23 16 (s .args .w)) 0 (d .before .before .before .if2 .left)) (allowed d)
     (omega arith) (omega (arith, d .variable .ensures)) (d .variable .ensures) (toZ-ofZ f ∙ c .before .before .coefficient .ensures) (toZ-ofZ g)
 

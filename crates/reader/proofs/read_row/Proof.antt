@@ -7,7 +7,7 @@ use Rattle.feed.specs.declared.Fed.the-variants.{Word}
 use Rattle.feed.specs.Steps.{rowStep}
 use Rattle.feed.specs.Answers.{held, stepped}
 use Rattle.reader.specs.Results.{rowRead}
-use Rattle.reader.proofs.RowLoop.{RowLoop, row-begun, row-place, row-near, row-turn, row-decided, row-ended}
+use Rattle.reader.proofs.RowLoop.{RowLoop, row-begun, row-asks, row-near, row-turn, row-decided, row-ended}
 use borrow.Author.Needs.{needs}
 use Rattle.reader.proofs.read_row.Statement.{statement}
 use Rattle.reader.proofs.read_row.Tie as tie
@@ -34,11 +34,8 @@ shared-slice-read-t13 c = search needs
 
 row-step-requires : tie.Need-row-step-requires Inv-loop μ-loop
 row-step-requires c κs =
-    let p = c .before .before .before in
-    let t = p .loop .inv in
-    let few : p .loop .kept .vars ≤ 8 = rw (t .1 .known) (t .0) in
-    let room = p .before .before .pre .1 in
-    (few, omega (arith, row-place _ _ _ (t .1), t .1 .here, room))
+    let l = c .before .before .before in
+    row-asks _ _ _ (l .loop .inv .0) (l .before .before .pre .1) (l .loop .inv .1)
 
 goes-on-requires : tie.Need-goes-on-requires Inv-loop μ-loop
 goes-on-requires c κs = search needs
@@ -76,11 +73,8 @@ loop-again c =
 
 row-step-requires-2 : tie.Need-row-step-requires-2 Inv-loop μ-loop
 row-step-requires-2 c κs =
-    let p = c .before .before in
-    let t = p .loop .inv in
-    let few : p .loop .kept .vars ≤ 8 = rw (t .1 .known) (t .0) in
-    let room = p .before .before .pre .1 in
-    (few, omega (arith, row-place _ _ _ (t .1), t .1 .here, room))
+    let l = c .before .before in
+    row-asks _ _ _ (l .loop .inv .0) (l .before .before .pre .1) (l .loop .inv .1)
 
 told-requires-2 : tie.Need-told-requires-2 Inv-loop μ-loop
 told-requires-2 c κs =
