@@ -1,17 +1,19 @@
 //! An independent implementation of document 01, "Show logic, lemmas and the abstract state graph",
-//! with requests 1 and 2 of document 02, "Untouched predicates keep their literal" and "Every finding on
-//! the sheet".
+//! with requests 1, 2 and 4 of document 02, "Untouched predicates keep their literal", "Every finding on
+//! the sheet" and "The rack's sixteen bits". Request 3, "Read a row once", changes no answer.
 
 pub mod bytes;
 pub mod judge;
 pub mod lemma;
 pub mod program;
+pub mod rack;
 pub mod records;
 pub mod sentences;
 pub mod shows;
 pub mod words;
 
 pub use judge::{findings, judge};
+pub use rack::{exact_run, rack_run, rack_step, Racked};
 use words::*;
 
 /// The number of the table and what is returned with it.
@@ -87,18 +89,13 @@ pub fn action_part(words: &[u32], k: usize) -> &[u32] {
     }
 }
 
-/// "*Step* runs one action on a lent list of 32-bit signed values: moved, not enabled, or runs off
-/// with the lowest such variable; only moved writes." Refuses 2 to 4, 8, 9, 10.
-pub fn step(words: &[u32], k: usize, state: &mut [i32]) -> Stepped {
-    let refuse = |number: u32, value: usize| Stepped::Refused(Refusal { number, value: value as u64 });
-    let program = match program::read(words) {
-        Ok(program) => program,
-        Err(refusal) => return Stepped::Refused(refusal),
-    };
-    let action = match program.actions.get(k) {
-        Some(action) => action,
-        None => return refuse(8, k),
-    };
+/// "Step: 2 to 4, 8, 9, 10." The program, where nothing is refused.
+fn ready(words: &[u32], k: usize, state: &[i32]) -> Result<program::Program, Refusal> {
+    let refuse = |number: u32, value: usize| Err(Refusal { number, value: value as u64 });
+    let program = program::read(words)?;
+    if k >= program.actions.len() {
+        return refuse(8, k);
+    }
     if state.len() != program.ranges.len() {
         return refuse(9, state.len());
     }
@@ -107,6 +104,12 @@ pub fn step(words: &[u32], k: usize, state: &mut [i32]) -> Stepped {
             return refuse(10, variable);
         }
     }
+    Ok(program)
+}
+
+/// Tries action k, which is there, on a state that lies on the ranges; only moved writes.
+fn exact_try(program: &program::Program, k: usize, state: &mut [i32]) -> Stepped {
+    let action = &program.actions[k];
     // "An action is enabled when all its guard rows hold; with no guard it always is."
     if !action.guards.iter().all(|row| row.holds(state)) {
         return Stepped::NotEnabled;
@@ -125,6 +128,15 @@ pub fn step(words: &[u32], k: usize, state: &mut [i32]) -> Stepped {
         state[variable] = value as i32;
     }
     Stepped::Moved
+}
+
+/// "*Step* runs one action on a lent list of 32-bit signed values: moved, not enabled, or runs off
+/// with the lowest such variable; only moved writes." Refuses 2 to 4, 8, 9, 10.
+pub fn step(words: &[u32], k: usize, state: &mut [i32]) -> Stepped {
+    match ready(words, k, state) {
+        Ok(program) => exact_try(&program, k, state),
+        Err(refusal) => Stepped::Refused(refusal),
+    }
 }
 
 /// "*Ask* says whether lemma k is accepted." Refuses 2 to 4, 5 and 6, 8, 11 for that lemma.

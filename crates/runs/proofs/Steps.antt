@@ -10,14 +10,15 @@ use lib.IntN.{ℤ}
 use lib.ListN.{length}
 use borrow.Author.Tests.{ltb-false}
 use Rattle.rows.specs.declared.Range.{Range}
-use Rattle.grammar.specs.Reading.{got}
+use Rattle.grammar.specs.Reading.{Read, got}
 use Rattle.grammar.specs.Programs.{Program}
 use Rattle.programs.specs.Calls.{read}
 use Rattle.runs.specs.declared.Stepped.the-variants.{RunsOff}
 use Rattle.runs.specs.Runs.{Outcome, Finished, Inside, onRange, lowestOff, step, landed, enabled, newValue, newState, actionOf, run}
 use Rattle.runs.proofs.Answers.{on-range}
 use Rattle.runs.proofs.NewValues.{values-length}
-use Rattle.runs.specs.Calls.{Stepping, outcome, stepCall}
+use Rattle.runs.proofs.Trying.{lowest-most}
+use Rattle.runs.specs.Calls.{Stepping, outcome, answered, stepCall}
 
 -- t is left by trying action k on s: by a move, or because the action is not enabled
 abbrev pub Leaves : Program → ℕ → List ℤ → List ℤ → Type 0
@@ -42,7 +43,7 @@ module _ (ws : List ℕ) (p : Program) {us : List ℕ} {i : ℕ} (q : read ws �
   call-leaves k s known h never = go (step p k s) refl
     where
       same : outcome (step p k s) s ≡ stepCall ws k s
-      same = on-range ws p q k s known (h .long) (omega (arith, h .none-off))
+      same = ap (λ (m : Read Program). answered step m k s) (sym (on-range ws p q k s known (h .long) (omega (arith, h .none-off))))
 
       by : (o : Outcome) → step p k s ≡ o → outcome o s ≡ stepCall ws k s
       by o e = ap (λ (x : Outcome). outcome x s) (sym e) ∙ same
@@ -53,16 +54,6 @@ module _ (ws : List ℕ) (p : Program) {us : List ℕ} {i : ℕ} (q : read ws �
       go (Outcome.RunsOff v) e = absurd (never v (sym (ap (λ (y : Stepping). y .answer) (by (Outcome.RunsOff v) e))))
 
 -- ---- the ranges are kept
-lowest-most : (gs : List Range) (s : List ℤ) → lowestOff gs s ≤ length gs
-unfolding lowestOff
-lowest-most [] s = omega arith
-lowest-most (g ∷ gs) [] = omega arith
-lowest-most (g ∷ gs) (x ∷ s) = pick (onRange g x) (lowest-most gs s)
-  where
-    pick : (b : Bool) {n m : ℕ} → n ≤ m → cond b (suc n) 0 ≤ suc m
-    pick true h = omega arith
-    pick false h = omega arith
-
 moved-on : (gs : List Range) (b : Bool) (u t : List ℤ) → cond b (landed gs u) Outcome.NotEnabled ≡ Outcome.Moved t → (u ≡ t) × (length gs ≤ lowestOff gs u)
 moved-on gs false u t e = let z : _≡_ {A = ℕ} 0 1 = cc in absurd (omega arith)
 moved-on gs true u t e = go (ltb (lowestOff gs u) (length gs)) refl e

@@ -12,16 +12,15 @@ use Rattle.rows.specs.declared.Row.{Row}
 use Rattle.rows.specs.declared.Range.{Range}
 use Rattle.rows.specs.Rows.{rowValue, zeroRange}
 use Rattle.grammar.specs.Reading.{got}
-use Rattle.grammar.specs.Programs.{Action}
+use Rattle.grammar.specs.Programs.{Action, Program}
 use Rattle.grammar.specs.WellFormed.{ActionOk}
 use Rattle.reader.specs.Results.{zeroRow, zeroRows}
 use Rattle.actions.specs.NewRows.{keepRows, assigned}
-use Rattle.actions.specs.Results.{actionRead}
 use Rattle.programs.specs.Images.{zeroRanges}
-use Rattle.runs.specs.Runs.{Outcome, allHold, lowestOff, newValue, newState, enabled, landed}
+use Rattle.runs.specs.Runs.{Outcome, allHold, lowestOff, newValue, newState, enabled, actionOf, step}
 use Rattle.runs.specs.Calls.{outcome, stay}
 use Rattle.runs.specs.declared.Stepped.the-variants.{Moved, NotEnabled, RunsOff}
-use Rattle.runs.specs.Values.{padded, tried}
+use Rattle.runs.specs.Values.{padded, begun, tried}
 use Rattle.runs.proofs.Trying.{all-padded}
 use Rattle.runs.proofs.Sizes.{front-stored}
 use Rattle.runs.proofs.NewValues.{values-length, new-values}
@@ -33,11 +32,17 @@ decided s t v true true = refl
 decided s t v true false = refl
 decided s t v false off = refl
 
-module _ (gs : List Range) (a : Action) (s : List ℤ) (rest : List ℕ) (j : ℕ) (l : length s ≡ length gs) (few : length gs ≤ 8) (ok : ActionOk (length gs) a) where
+module _ (p : Program) (us : List ℕ) (i k : ℕ) (s : List ℤ) (l : length s ≡ length (p .ranges)) (few : length (p .ranges) ≤ 8) (ok : ActionOk (length (p .ranges)) (actionOf p k)) where
+  abbrev gs : List Range
+  gs = p .ranges
+
+  abbrev a : Action
+  a = actionOf p k
+
   abbrev t : List ℤ
   t = newState a s
 
-  new-state : take (length s) (map (λ r. rowValue r (padded s)) (assigned keepRows (a .sets))) ≡ t
+  pub new-state : take (length s) (map (λ r. rowValue r (padded s)) (assigned keepRows (a .sets))) ≡ t
   new-state =
       ap (take (length s)) (new-values (length gs) (a .sets) (ok .rising) s l few)
       ∙ take-at t (replicate (8 - length t) (pos 0)) (length s) (values-length (newValue (a .sets) s) 0 (length s))
@@ -45,10 +50,10 @@ module _ (gs : List Range) (a : Action) (s : List ℤ) (rest : List ℕ) (j : �
   same-ranges : take (length s) (sets zeroRanges 0 gs) ≡ gs
   same-ranges = rw l (front-stored 8 zeroRange gs few)
 
-  same-guards : allHold (take (length (a .guards)) (sets zeroRows 0 (a .guards))) (padded s) ≡ enabled a s
+  pub same-guards : allHold (take (length (a .guards)) (sets zeroRows 0 (a .guards))) (padded s) ≡ enabled a s
   same-guards = ap (λ (rs : List Row). allHold rs (padded s)) (front-stored 14 zeroRow (a .guards) (omega (arith, ok .guards .few))) ∙ all-padded (a .guards) s (8 - length s)
 
-  pub tried-is : tried (sets zeroRanges 0 gs) (actionRead (got a rest j)) (padded s) s ≡ outcome (cond (enabled a s) (landed gs t) Outcome.NotEnabled) s
+  pub tried-is : tried (begun (got p us i) k s) s ≡ outcome (step p k s) s
   tried-is =
       let same : ltb (lowestOff gs t) (length s) ≡ ltb (lowestOff gs t) (length gs) = ap (ltb (lowestOff gs t)) l in
       rw (same-guards, same-ranges, new-state, same) (decided s t (lowestOff gs t) (enabled a s) (ltb (lowestOff gs t) (length gs)))

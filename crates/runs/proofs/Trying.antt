@@ -7,7 +7,7 @@ use native.Mathlib.Omega.{arith}
 use native.Mathlib.Nat.{not-suc-le-zero, le-of-suc-le-suc}
 use lib.IntN.{ℤ, pos, _+ℤ_, _*ℤ_}
 use lib.Signed.{leZ}
-use lib.ListN.{length, getD, take, replicate}
+use lib.ListN.{length, getD, take, replicate, length-take}
 use lib.Seq.{getD-take, length-take-le}
 use mir.Syntax.{w32}
 use mir.Val.{SFits}
@@ -32,6 +32,16 @@ on-range (g ∷ gs) [] v h l = absurd (not-suc-le-zero h)
 on-range (g ∷ gs) (x ∷ xs) zero h l = first-on (onRange g x) h .0
 on-range (g ∷ gs) (x ∷ xs) (suc v) h l = on-range gs xs v (first-on (onRange g x) h .1) (le-of-suc-le-suc l)
 
+pub lowest-most : (gs : List Range) (s : List ℤ) → lowestOff gs s ≤ length gs
+unfolding lowestOff
+lowest-most [] s = omega arith
+lowest-most (g ∷ gs) [] = omega arith
+lowest-most (g ∷ gs) (x ∷ s) = pick (onRange g x) (lowest-most gs s)
+  where
+    pick : (b : Bool) {n m : ℕ} → n ≤ m → cond b (suc n) 0 ≤ suc m
+    pick true h = omega arith
+    pick false h = omega arith
+
 pub within-small : {g : Range} {x : ℤ} → SmallRange g → onRange g x ≡ true → Within maxState x
 within-small {g} {x} s h =
     let (low, high) = and-true (leZ (g .low) x) (leZ x (g .high)) h in
@@ -41,9 +51,10 @@ pub small-fits : {x : ℤ} → Within maxState x → SFits w32 x
 small-fits h = within-fits w32 (omega arith) h
 
 -- values that are written: the first n, each on its range
-pub written-fits : (gs : List Range) (xs : List ℤ) (n : ℕ) → smallRanges gs → n ≤ length gs → n ≤ lowestOff (take n gs) (take n xs) → (v : ℕ) → v < n → SFits w32 (getD xs v (pos 0))
-written-fits gs xs n small l h v m =
-    let len = length-take-le n gs l in
+pub written-fits : (gs : List Range) (xs : List ℤ) (n : ℕ) → smallRanges gs → n ≤ lowestOff (take n gs) (take n xs) → (v : ℕ) → v < n → SFits w32 (getD xs v (pos 0))
+written-fits gs xs n small h v m =
+    let most = lowest-most (take n gs) (take n xs) in
+    let len = length-take-le n gs (omega (arith, length-take n gs)) in
     let on = on-range (take n gs) (take n xs) v (rw len h) (rw len m) in
     small-fits (within-small (small v) (rw (getD-take n gs v zeroRange m, getD-take n xs v (pos 0) m) at on))
 

@@ -3,7 +3,8 @@
 -- Stepping  — the answer and the state at exit
 -- stay      — an answer that leaves the state
 -- outcome   — what trying the action does
--- stepped   — the answer on a program that was read, or the refusal; refusals in the order 2 to 4, 8, 9, 10
+-- ready     — the program, or the refusal that is due before an action is tried: 2 to 4, 8, 9, 10 in that order
+-- answered  — what a step function answers on a program that was read, or the refusal
 -- stepCall  — Step
 use mathlib.Core.Bool.{cond, not}
 use mathlib.Core.List.{List}
@@ -32,14 +33,19 @@ outcome (Outcome.Moved t) s = record { answer = Moved; state = t }
 outcome Outcome.NotEnabled s = stay NotEnabled s
 outcome (Outcome.RunsOff v) s = stay (RunsOff v) s
 
--- in this order: no such action; a state of another length; a value off its range
-abbrev pub stepped : Read Program → ℕ → List ℤ → Stepping
-stepped (refused r) k s = stay (Refused r) s
-stepped (got p ws i) k s =
-    cond (leb (length (p .actions)) k) (stay (Refused (Absent k)) s)
-    (cond (not (eqb (length s) (length (p .ranges)))) (stay (Refused (Length (length s))) s)
-    (cond (ltb (lowestOff (p .ranges) s) (length (p .ranges))) (stay (Refused (State (lowestOff (p .ranges) s))) s)
-    (outcome (step p k s) s)))
+-- The program, or what is refused before action k is tried on a state; in this order: no such action; a state of another length; a value off its range.
+abbrev pub ready : Read Program → ℕ → List ℤ → Read Program
+ready (refused r) k s = refused r
+ready (got p ws i) k s =
+    cond (leb (length (p .actions)) k) (refused (Absent k))
+    (cond (not (eqb (length s) (length (p .ranges)))) (refused (Length (length s)))
+    (cond (ltb (lowestOff (p .ranges) s) (length (p .ranges))) (refused (State (lowestOff (p .ranges) s)))
+    (got p ws i)))
+
+-- the outcome of a step function at the state, or the refusal
+abbrev pub answered : (Program → ℕ → List ℤ → Outcome) → Read Program → ℕ → List ℤ → Stepping
+answered f (refused r) k s = stay (Refused r) s
+answered f (got p ws i) k s = outcome (f p k s) s
 
 abbrev pub stepCall : List ℕ → ℕ → List ℤ → Stepping
-stepCall ws k s = stepped (read ws) k s
+stepCall ws k s = answered step (ready (read ws) k s) k s

@@ -9,11 +9,10 @@ ghost use mir.Val.{SFits};
 ghost use Rattle.rows.specs.Rows.{rowValue};
 ghost use Rattle.rows.specs.Bounds.{small, Small, smallRanges, maxState};
 ghost use Rattle.runs.specs.Runs.{onRange, lowestOff, allHold};
-ghost use Rattle.runs.specs.Calls.{stepCall};
-ghost use Rattle.runs.specs.Values.{padded, SmallRows, tried};
-use actions::ActionRead;
+ghost use Rattle.programs.specs.Calls.{read};
+ghost use Rattle.runs.specs.Calls.{ready, stepCall};
+ghost use Rattle.runs.specs.Values.{padded, SmallRows, notBegun, begun, Good, tried};
 use programs::Status;
-use reader::Next;
 use rows::Range;
 use rows::Row;
 use words::Refusal;
@@ -74,7 +73,7 @@ fn lowest_off(ranges: [Range; 8], n: usize, x: [i64; 8]) -> usize
 }
 
 // Do the first n rows hold?
-fn all_hold(rows: [Row; 14], n: usize, x: [i64; 8]) -> bool
+pub fn all_hold(rows: [Row; 14], n: usize, x: [i64; 8]) -> bool
     requires { ⌜ (n ≤ 14) × SmallRows rows × small maxState x ⌝ }
     ensures { λ r. ⌜ r ≡ allHold (take n rows) x ⌝ }
 {
@@ -124,7 +123,7 @@ fn narrow(x: i64) -> i32
 }
 
 // The first values, written to a state.
-fn write(state: &mut [i32], x: [i64; 8])
+pub fn write(state: &mut [i32], x: [i64; 8])
     requires { ⌜ (length (now state) ≤ 8) × ((v : ℕ) → v < length (now state) → SFits w32 (getD x v (pos 0))) ⌝ }
     ensures { λ _. ⌜ now (state .exit) ≡ take (length (now (state .entry))) x ⌝ }
 {
@@ -136,19 +135,87 @@ fn write(state: &mut [i32], x: [i64; 8])
     }
 }
 
-// An action's guard rows and each variable's row, tried on a state whose values are `old`.
-fn take_action(ranges: [Range; 8], action: ActionRead, old: [i64; 8], state: &mut [i32]) -> Stepped
-    requires { ⌜ (length (now state) ≤ 8) × (action .guards ≤ 14) × SmallRows (action .guard) × SmallRows (action .rows) × small maxState old
-        × smallRanges ranges ⌝ }
-    ensures { λ r. ⌜ (r ≡ tried ranges action old (now (state .entry)) .answer) × (now (state .exit) ≡ tried ranges action old (now (state .entry)) .state) ⌝ }
+// What trying an action begins with: is there one to try; the ranges, the state's values, the action's guard rows from place 0 on, and each variable's row.
+pub struct Begun {
+    pub status: Status,
+    pub ranges: [Range; 8],
+    pub old: [i64; 8],
+    pub guards: usize,
+    pub guard: [Row; 14],
+    pub rows: [Row; 8],
+}
+
+fn not_begun(why: Refusal) -> Begun
+    ensures { λ r. ⌜ r ≡ notBegun why ⌝ }
 {
-    let guards = action.guards;
+    let zero = Range { low: 0, high: 0 };
+    let blank = Row {
+        coef: [0i64; 8],
+        constant: 0,
+    };
+    Begun {
+        status: Status::Failed(why),
+        ranges: [zero; 8],
+        old: [0i64; 8],
+        guards: 0,
+        guard: [blank; 14],
+        rows: actions::KEEP,
+    }
+}
+
+// Action k of a program, read to be tried on a state.
+pub fn begin(words: &[u32], k: usize, state: &[i32]) -> Begun
+    ensures { λ r. ⌜ r ≡ begun (ready (read (now (words .entry))) k (now (state .entry))) k (now (state .entry)) ⌝ }
+{
+    let loaded = programs::load(words);
+    let status = loaded.status;
+    if let Status::Failed(why) = status {
+        return not_begun(why);
+    }
+    let image = loaded.image;
+    let count = image.actions;
+    if count <= k {
+        return not_begun(Refusal::Absent(k));
+    }
+    let vars = image.vars;
+    let n = state.len();
+    if n != vars {
+        return not_begun(Refusal::Length(n));
+    }
+    let ranges = image.ranges;
+    let old = widened(state);
+    let outside = lowest_off(ranges, vars, old);
+    if outside < vars {
+        return not_begun(Refusal::State(outside));
+    }
+    let at = image.action_at[k];
+    let action = actions::read_action(words, at, vars, true);
     let guard = action.guard;
+    let rows = action.rows;
+    Begun {
+        status: Status::Ready,
+        ranges,
+        old,
+        guards: action.guards,
+        guard,
+        rows,
+    }
+}
+
+// An action, tried on a state.
+fn take_action(b: Begun, state: &mut [i32]) -> Stepped
+    requires { ⌜ Good b × (length (now state) ≤ 8) ⌝ }
+    ensures { λ r. ⌜ (r ≡ tried b (now (state .entry)) .answer) × (now (state .exit) ≡ tried b (now (state .entry)) .state) ⌝ }
+{
+    let guards = b.guards;
+    let guard = b.guard;
+    let old = b.old;
     if !all_hold(guard, guards, old) {
         return Stepped::NotEnabled;
     }
-    let rows = action.rows;
+    let rows = b.rows;
     let new = values(rows, old);
+    let ranges = b.ranges;
     let vars = state.len();
     let off = lowest_off(ranges, vars, new);
     if off < vars {
@@ -163,28 +230,10 @@ pub fn step(words: &[u32], k: usize, state: &mut [i32]) -> Stepped
     ensures { λ r. ⌜ (r ≡ stepCall (now (words .entry)) k (now (state .entry)) .answer)
         × (now (state .exit) ≡ stepCall (now (words .entry)) k (now (state .entry)) .state) ⌝ }
 {
-    let loaded = programs::load(words);
-    let status = loaded.status;
-    if let Status::Failed(why) = status {
-        return Stepped::Refused(why);
+    let begun = begin(words, k, &state[..]);
+    let status = begun.status;
+    match status {
+        Status::Failed(why) => Stepped::Refused(why),
+        Status::Ready => take_action(begun, &mut *state),
     }
-    let image = loaded.image;
-    let count = image.actions;
-    if count <= k {
-        return Stepped::Refused(Refusal::Absent(k));
-    }
-    let vars = image.vars;
-    let n = state.len();
-    if n != vars {
-        return Stepped::Refused(Refusal::Length(n));
-    }
-    let ranges = image.ranges;
-    let old = widened(&state[..]);
-    let outside = lowest_off(ranges, vars, old);
-    if outside < vars {
-        return Stepped::Refused(Refusal::State(outside));
-    }
-    let at = image.action_at[k];
-    let action = actions::read_action(words, at, vars, true);
-    take_action(ranges, action, old, &mut *state)
 }

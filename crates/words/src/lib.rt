@@ -81,7 +81,7 @@ pub const NO_NODE: u32 = PAYLOADS - 1;
 pub const NO_PARENT: u32 = 8191;
 
 // n read in two's complement, where the numbers from `half` on are negative.
-fn signed_by(n: u32, half: u32) -> i64
+pub fn signed_by(n: u32, half: u32) -> i64
     requires { ⌜ (n < half + half) × (half ≤ 2 ^ 27) ⌝ }
     ensures { λ r. ⌜ r ≡ signedBy half n ⌝ }
 {

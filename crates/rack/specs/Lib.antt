@@ -1,0 +1,2 @@
+pub mod Rack
+pub mod Values
