@@ -44,7 +44,7 @@ static_assert(sizeof(size_t) == 8, "64-bit numbers only");
 _Static_assert(sizeof(size_t) == 8, "64-bit numbers only");
 #endif
 
-#define BNV_VERSION "0.4.1"
+#define BNV_VERSION "0.5.0"
 
 /* ---- Words: the kind in bits 31 to 28, the payload in bits 27 to 0. */
 
@@ -164,6 +164,20 @@ typedef struct {
 BnvStep bnv_step(const uint32_t *words, size_t words_length, size_t k, int32_t *state, size_t state_length);
 
 /*
+ * ---- The rack's step: what a rack does with action k, which holds each variable in sixteen bits.
+ *
+ * Guards are worked out exactly. The new values are worked out in sixteen bits: coefficients and constants are cut to them, products and
+ * sums wrap, and the result is read as two's complement. BNV_MOVED writes these values, also where bnv_step answers BNV_RUNS_OFF; they
+ * may be off their ranges, and then the next call refuses them. The answer is never BNV_RUNS_OFF. Refusals are those of bnv_step, in
+ * its order, and leave the state.
+ *
+ * Where bnv_step does not answer BNV_RUNS_OFF, bnv_rack_step answers and writes the same. So after BNV_SAFE the rack's values are the
+ * exact ones, from every start state and along every list of actions.
+ */
+
+BnvStep bnv_rack_step(const uint32_t *words, size_t words_length, size_t k, int32_t *state, size_t state_length);
+
+/*
  * ---- Ask: is lemma k of the list accepted? An accepted lemma is true of all whole numbers in the ranges.
  *
  * Refusals in the order 2 to 4, 5 and 6, 8, 11.
@@ -223,7 +237,7 @@ BnvJudge bnv_judge(const uint32_t *words, size_t words_length, const uint32_t *l
  *
  * BNV_JUDGED: `judged` is what bnv_judge answers for that logic and those lemmas, a refusal too, and the graph list and the path list
  * are left as it leaves them. The show's words stand at the front of the words list, and further words are left. So words[0] up to
- * words[logic - 1] is the list for bnv_check, bnv_action_part and bnv_step, and words[logic] up to words[logic + lemmas - 1], with it,
+ * words[logic - 1] is the list for bnv_check, bnv_action_part, bnv_step and bnv_rack_step, and words[logic] up to words[logic + lemmas - 1], with it,
  * for bnv_ask. Every other answer leaves the three lists, and `judged` is all 0, which is no verdict: the show may be loaded exactly
  * where judged.verdict == BNV_SAFE.
  */

@@ -169,6 +169,34 @@ static void step(void)
     CHECK(s.answer == BNV_STEP_REFUSED && s.refusal == BNV_REFUSED_STATE && s.value == 0 && state[0] == -1);
 }
 
+/* The incident: a macro takes 10 off a level of 5. And 4 and 5 times 8,191, which is 73,719 and in sixteen bits 8,183. */
+static void rack_step(void)
+{
+    static const uint32_t macro[] = {0x100003E8, 0x40000000, 0x50000000, 0x60000001, 0x70000000, 0x2FFFFFF6, 0x30000001, 0xF0000000};
+    static const uint32_t sum[] = {0x10001FFF, 0x10001FFF, 0x40000000, 0x50000000, 0x60000001, 0x70000000, 0x20000000, 0x30000004, 0x31000005, 0xF0000000};
+    int32_t state[] = {5, 77}, both[] = {8191, 8191};
+    BnvStep s = bnv_step(macro, 8, 0, state, 1);
+    CHECK(s.answer == BNV_RUNS_OFF && s.variable == 0 && state[0] == 5);
+    s = bnv_rack_step(macro, 8, 0, state, 1);
+    CHECK(s.answer == BNV_MOVED && s.variable == 0 && s.refusal == 0 && s.value == 0 && state[0] == -5 && state[1] == 77);
+    s = bnv_rack_step(macro, 8, 0, state, 1);
+    CHECK(s.answer == BNV_STEP_REFUSED && s.refusal == BNV_REFUSED_STATE && s.value == 0 && state[0] == -5);
+    s = bnv_rack_step(sum, 10, 0, both, 2);
+    CHECK(s.answer == BNV_MOVED && both[0] == 8183 && both[1] == 8191);
+    state[0] = 400;
+    s = bnv_rack_step(fade, LOGIC, 0, state, 1);
+    CHECK(s.answer == BNV_MOVED && state[0] == 395);
+    state[0] = 4;
+    s = bnv_rack_step(fade, LOGIC, 0, state, 1);
+    CHECK(s.answer == BNV_NOT_ENABLED && s.refusal == 0 && state[0] == 4);
+    s = bnv_rack_step(fade, LOGIC - 1, 0, state, 1);
+    CHECK(s.answer == BNV_STEP_REFUSED && s.refusal == BNV_REFUSED_WORD && s.value == LOGIC - 1 && state[0] == 4);
+    s = bnv_rack_step(fade, LOGIC, 7, state, 1);
+    CHECK(s.answer == BNV_STEP_REFUSED && s.refusal == BNV_REFUSED_ABSENT && s.value == 7);
+    s = bnv_rack_step(fade, LOGIC, 0, NULL, 0);
+    CHECK(s.answer == BNV_STEP_REFUSED && s.refusal == BNV_REFUSED_LENGTH && s.value == 0);
+}
+
 static void ask(void)
 {
     static const uint32_t idle[] = {0x90030000, 0x80000000, 0xA0000000, 0xA0000000};
@@ -361,7 +389,7 @@ static size_t taken(void (*part)(void))
 
 int main(void)
 {
-    void (*parts[])(void) = {kinds, finding_fields, check, action_part, step, ask, judge, judge_refused, findings_refused, findings, show_refused, show};
+    void (*parts[])(void) = {kinds, finding_fields, check, action_part, step, rack_step, ask, judge, judge_refused, findings_refused, findings, show_refused, show};
     size_t most = 0, last = 0;
     for (size_t i = 0; i < sizeof parts / sizeof *parts; i++) {
         last = taken(parts[i]);

@@ -1,6 +1,6 @@
 #!/bin/bash
-# The static library from C and from Rust: the header as C11 and as C++17, each call on Fade, and both examples on shows and in trouble, which
-# print the same and end with the same status. It prints `ok` at the end. `rt staticlib exports` is run only where the library is missing.
+# The static library from C and from Rust: the header as C11 and as C++17, each call on Fade, and the examples on shows and in trouble, those in C and in
+# Rust of which print the same and end with the same status. It prints `ok` at the end. `rt staticlib exports` is run only where the library is missing.
 set -eu
 cd "$(dirname "$(readlink -f "$0")")/.."
 room=$(mktemp -d)
@@ -18,8 +18,10 @@ cc -std=c11 $strict -fsyntax-only -x c tests/header.c
 c++ -std=c++17 $strict -fsyntax-only -x c++ tests/header.c
 compile tests/calls.c "$room/calls"
 compile examples/show.c "$room/show"
-(cd wrapper && cargo build --release --offline --quiet --example show)
+compile examples/rack.c "$room/rack"
+(cd wrapper && cargo build --release --offline --quiet --example show --example rack)
 shows=("$room/show" "$CARGO_TARGET_DIR/release/examples/show")
+racks=("$room/rack" "$CARGO_TARGET_DIR/release/examples/rack")
 
 "$room/calls"
 (cd wrapper && cargo test --release --offline --quiet >"$room/tests" 2>&1) || { cat "$room/tests"; exit 1; }
@@ -88,6 +90,52 @@ printf '%s\n' '#define main shown' '#include "show.c"' '#undef main' \
     'int main(void) { for (uint32_t n = 1; n < 13; n++) if (print_refusal(n, 512) != REFUSED) return 1; return 0; }' >"$room/refusals.c"
 cc -std=c11 $strict -I"$PWD/include" -I"$PWD/examples" "$room/refusals.c" "$library" -o "$room/refusals"
 "$room/refusals" | diff tests/refusals.txt -
+
+# Actions of a show pressed, exactly and as the rack does: both examples print these lines, and end with this status.
+presses() { # STATUS LINES ARGUMENT..
+    local program status expected=$1
+    printf '%s\n' "$2" >"$room/expected"
+    shift 2
+    for program in "${racks[@]}"; do
+        status=0
+        "$program" "$@" >"$room/out" 2>"$room/err" || status=$?
+        diff "$room/expected" "$room/out" && [ ! -s "$room/err" ] && [ "$status" -eq "$expected" ] \
+            || fail "$program $*: not as expected, status $status"
+    done
+}
+# The incident: 5 take 10 is minus 5. Mended, the guard holds it. A sum that wraps into its range: 4 and 5 times 8,191 is 73,719, less 65,536.
+presses 1 "not safe
+action 0: exact runs off at variable 0, 5; rack moves, -5
+the rack's values are not the exact ones" shows/incident.words 5 -- 0 0
+presses 0 "safe
+action 0: exact moves, 15; rack moves, 15
+action 0: exact moves, 5; rack moves, 5
+action 0: exact is not enabled, 5; rack is not enabled, 5
+the rack's values are the exact ones" shows/incident_mended.words 25 -- 0 0 0
+words "$room/sum" 10001FFF 10001FFF 40000000 50000000 60000001 70000000 20000000 30000004 31000005 F0000000
+presses 1 "not safe
+action 0: exact runs off at variable 0, 8191 8191; rack moves, 8183 8191
+the rack's values are not the exact ones" "$room/sum" 8191 8191 -- 0
+# Values off their range, too many of them, no such action, no actions, no program.
+presses 3 'not safe
+refused: 10 AT 0' shows/incident.words -5 -- 0
+presses 3 'safe
+refused: 9 AT 2' shows/fade.words 5 5 -- 0
+presses 3 'safe
+refused: 8 AT 2' shows/fade.words 5 -- 2
+presses 0 "safe
+the rack's values are the exact ones" shows/fade.words 5 --
+presses 3 'refused: 2 AT 5' "$room/short" 5 -- 0
+for program in "${racks[@]}"; do
+    for arguments in "" "shows/fade.words 5" "shows/fade.words x -- 0" "shows/fade.words 5 -- -1" "$room/odd 5 -- 0" "$room/missing 5 -- 0"; do
+        status=0
+        "$program" $arguments >"$room/out" 2>"$room/err" || status=$?
+        [ "$status" -eq 2 ] && [ -s "$room/err" ] || fail "$program $arguments: status $status"
+    done
+    status=0
+    "$program" shows/fade.words 5 -- 0 >/dev/full 2>"$room/err" || status=$?
+    [ "$status" -eq 2 ] && [ -s "$room/err" ] || fail "$program: a full device: status $status"
+done
 
 # Trouble: status 2, a message on standard error, and no verdict on standard output, where there is one.
 trouble() { # NAME PROGRAM STATUS

@@ -10,6 +10,7 @@
 HOLDS(sizeof(bnv_check(NULL, 0)) == sizeof(BnvCheck) && sizeof(BnvCheck) == 56);
 HOLDS(sizeof(bnv_action_part(NULL, 0, 0)) == sizeof(BnvPart) && sizeof(BnvPart) == 16);
 HOLDS(sizeof(bnv_step(NULL, 0, 0, NULL, 0)) == sizeof(BnvStep) && sizeof(BnvStep) == 32);
+HOLDS(sizeof(bnv_rack_step(NULL, 0, 0, NULL, 0)) == sizeof(BnvStep));
 HOLDS(sizeof(bnv_ask(NULL, 0, NULL, 0, 0)) == sizeof(BnvAsk) && sizeof(BnvAsk) == 16);
 HOLDS(sizeof(bnv_judge(NULL, 0, NULL, 0, NULL, 0, NULL, 0)) == sizeof(BnvJudge) && sizeof(BnvJudge) == 72);
 HOLDS(sizeof(bnv_show(NULL, 0, NULL, 0, NULL, 0, NULL, 0)) == sizeof(BnvShow) && sizeof(BnvShow) == 96);

@@ -1,18 +1,18 @@
 #!/usr/bin/env python3
-"""Test vectors for the calls Check, Action part and Step of show logic.
+"""Test vectors for the calls Check, Action part, Step and the rack's step of show logic.
 
 Every expected answer is written by hand from the sentences of the scope document; nothing here reads a program.
 
     python3 vectors.py OUTDIR    writes OUTDIR/stdin and OUTDIR/stdout
     python3 vectors.py --list    prints name, call and expected answer, one vector per line
 
-stdin is a run of little-endian 32-bit words: per vector the call (0 Check, 1 Action part, 2 Step), k (0 for Check), n, n words;
-for Step then m and m state values in two's complement.
+stdin is a run of little-endian 32-bit words: per vector the call (0 Check, 1 Action part, 2 Step, 3 the rack's step), k (0 for Check), n, n words;
+for the two steps then m and m state values in two's complement.
 stdout has one line per vector:
     COUNTS v s p a f    variables, start rows, predicates, actions, forbidden combinations
     REFUSED r AT p      the refusal's number and the word index returned with it
     PART w w w          the words of the part in decimal; only PART when the part is empty
-Step's line is MOVED, NOT ENABLED, RUNS OFF v or REFUSED r AT p, then LEFT and each state value at exit in decimal.
+A step's line is MOVED, NOT ENABLED, RUNS OFF v (of Step alone) or REFUSED r AT p, then LEFT and each state value at exit in decimal.
 """
 
 import os
@@ -108,6 +108,10 @@ def part(name, words, k, answer):
 
 def step(name, words, k, state, answer):
     VECTORS.append((GROUP[0], name, 2, k, list(words), list(state), answer))
+
+
+def rack(name, words, k, state, answer):
+    VECTORS.append((GROUP[0], name, 3, k, list(words), list(state), answer))
 
 
 def PART(*words):
@@ -941,6 +945,87 @@ step("10: House, both", HOUSE, 3, [1001, -1], "REFUSED 10 AT 0 LEFT 1001 -1")
 
 
 # ---------------------------------------------------------------------------------------------------------------------
+# Request 4: "Our racks hold each variable in sixteen bits and let sums and products wrap, constants being cut to sixteen bits as well, reading the
+# result as two's complement. Guards are worked out exactly." "It answers moved or not enabled only, and writes the wrapped values even where the exact
+# step runs off."
+group("the rack's step: the incident, and as Step where that does not run off")
+
+INCIDENT = [VAR(0, 1000), INIT(0), PRED(0), ACTION(0, 1), SET(0), ROW(-10), TERM(0, 1), END()]
+rack("incident: 5 take 10", INCIDENT, 0, [5], "MOVED LEFT -5")
+rack("incident: the value that it wrote", INCIDENT, 0, [-5], "REFUSED 10 AT 0 LEFT -5")
+rack("incident: 10 take 10", INCIDENT, 0, [10], "MOVED LEFT 0")
+rack("Fade 0 at 4", FADE, 0, [4], "NOT ENABLED LEFT 4")
+rack("Fade 0 at 5", FADE, 0, [5], "MOVED LEFT 0")
+rack("Fade 1 at 995", FADE, 1, [995], "MOVED LEFT 1000")
+rack("Fade 1 at 996", FADE, 1, [996], "NOT ENABLED LEFT 996")
+rack("House 0 at 0 0", HOUSE, 0, [0, 0], "MOVED LEFT 0 1")
+rack("House 1 at 1000 1, forbidden", HOUSE, 1, [1000, 1], "NOT ENABLED LEFT 1000 1")
+rack("no guard row, no assignment", action_program(ACTION(0, 0)), 0, [7], "MOVED LEFT 7")
+rack("not enabled where the exact step would run off", action_program(ACTION(1, 1), ROW(-1), SET(0), ROW(10)), 0, [7], "NOT ENABLED LEFT 7")
+rack("past the low end", NARROW, 0, [-3, 0], "MOVED LEFT -4 0")
+rack("past the high end", NARROW, 1, [3, 1], "MOVED LEFT 4 1")
+rack("the first on its range, the second past it: both are written", NARROW, 2, [2, 3], "MOVED LEFT 3 4")
+rack("the first low, the second high", NARROW, 3, [-3, 3], "MOVED LEFT -4 4")
+rack("the sum of the others, 0 to 5 past the high end", AT_ONCE, 0, [10, 10, 10, 10, 10, 10, 20, 31],
+     "MOVED LEFT 101 101 101 101 101 101 91 80")
+rack("each takes the next one's value", AT_ONCE, 1, [1, -2, 3, -4, 5, -6, 7, -8], "MOVED LEFT -2 3 -4 5 -6 7 -8 1")
+rack("2 and 5 change places, the others keep theirs", AT_ONCE, 3, [-1, 2, -3, 4, -5, 6, -7, 8], "MOVED LEFT -1 2 6 4 -5 -3 -7 8")
+
+# ---------------------------------------------------------------------------------------------------------------------
+# Multiples of 65,536: 65,536, 8,192,000 (125 times), 983,040 (15 times). From 32,768 on, a number of sixteen bits stands for itself less 65,536.
+group("the rack's step: sixteen bits")
+
+
+def to_new(constant, *terms):
+    """Eight variables -8192..8191; action 0 gives variable 0 this row."""
+    return [VAR(-8192, 8191)] * 8 + [INIT(0), PRED(0), ACTION(0, 1), SET(0), ROW(constant)] + [TERM(v, c) for v, c in terms] + [END()]
+
+
+def stored(name, constant, terms, state, value):
+    """The value that variable 0 gets; the others keep theirs."""
+    state = state + [0] * (8 - len(state))
+    rack(name, to_new(constant, *terms), 0, state, "MOVED LEFT" + "".join(" %d" % x for x in [value] + state[1:]))
+
+
+for constant, value in [(32767, 32767), (32768, -32768), (65535, -1), (65536, 0), (65541, 5), (98303, 32767), (98304, -32768),
+                        (-32768, -32768), (-32769, 32767), (-65536, 0), (-65537, -1), (1000000, 16960), (-1000000, -16960)]:
+    stored("constant %d" % constant, constant, [], [3], value)
+stored("1,000 times 32 is 32,000", 0, [(0, 1000)], [32], 32000)
+stored("1,000 times 33 is 33,000", 0, [(0, 1000)], [33], -32536)
+stored("1,000 times 66 is 66,000", 0, [(0, 1000)], [66], 464)
+stored("1,000 times 8,191 is 8,191,000", 0, [(0, 1000)], [8191], -1000)
+stored("1,000 times -8,192 is -8,192,000", 0, [(0, 1000)], [-8192], 0)
+stored("-1,000 times 8,191 is -8,191,000", 0, [(0, -1000)], [8191], 1000)
+stored("-1 times -8,192 is 8,192", 0, [(0, -1)], [-8192], 8192)
+stored("4 and 5 times 8,191 is 73,719", 0, [(0, 4), (1, 5)], [8191, 8191], 8183)
+stored("8 times 8,191 and 7 is 65,535", 7, [(1, 8)], [5, 8191], -1)
+stored("8 times 8,191 and 8 is 65,536", 8, [(1, 8)], [5, 8191], 0)
+stored("products that wrap, and a sum that does not: -1,000 and 1,000", 0, [(0, 1000), (1, -1000)], [8191, 8191], 0)
+stored("the largest sum: eight times 8,191,000 and 1,000,000 is 66,528,000", 1000000, [(v, 1000) for v in range(8)], [8191] * 8, 8960)
+stored("the smallest: eight times -8,192,000 and -1,000,000", -1000000, [(v, 1000) for v in range(8)], [-8192] * 8, -16960)
+stored("eight variables, told apart: 1 + 20 + 300 + 4,000 - 5 - 60 - 700 - 9", 0, [(0, 1), (1, 10), (2, 100), (3, 1000), (4, -1), (5, -10), (6, -100), (7, -1)],
+       [1, 2, 3, 4, 5, 6, 7, 9], 3547)
+# 512 times 64 is 32,768, which sixteen bits would read as -32,768; -65,536 is 0 in sixteen bits.
+rack("a guard's value past 16 bits", [VAR(0, 1000), INIT(0), PRED(0), ACTION(1, 0), ROW(0), TERM(0, 512), END()], 0, [64], "MOVED LEFT 64")
+rack("a guard's constant is not cut", [VAR(0, 1000), INIT(0), PRED(0), ACTION(1, 0), ROW(-65536), END()], 0, [64], "NOT ENABLED LEFT 64")
+
+# ---------------------------------------------------------------------------------------------------------------------
+# "Answers: as for step, in the same order."
+group("the rack's step: refusals")
+
+rack("2 before 8 and 9", FADE[:-1], 9, [], "REFUSED 2 AT 15 LEFT")
+rack("3 before 8 and 10", [VAR(0, 9), INIT(9), PRED(0), ACTION(0, 0), END()], 5, [-1], "REFUSED 3 AT 1 LEFT -1")
+rack("4 before 8 and 9", [VAR(1, 0), INIT(0), PRED(0), ACTION(0, 0), END()], 7, [], "REFUSED 4 AT 0 LEFT")
+rack("8: Fade 2", FADE, 2, [5], "REFUSED 8 AT 2 LEFT 5")
+rack("8 before 9", FADE, 2, [], "REFUSED 8 AT 2 LEFT")
+rack("9: one value too many", HOUSE, 2, [1, 0, 0], "REFUSED 9 AT 3 LEFT 1 0 0")
+rack("9 before 10", FADE, 0, [-1, 1001], "REFUSED 9 AT 2 LEFT -1 1001")
+rack("10: Fade 1 at 1001, where its guard fails", FADE, 1, [1001], "REFUSED 10 AT 0 LEFT 1001")
+rack("10: 65,541, whose low 16 bits are 5", FADE, 0, [65541], "REFUSED 10 AT 0 LEFT 65541")
+rack("10: House, both", HOUSE, 3, [1001, -1], "REFUSED 10 AT 0 LEFT 1001 -1")
+
+
+# ---------------------------------------------------------------------------------------------------------------------
 # Writing the files
 
 STDIN_LIMIT = 60000
@@ -964,7 +1049,8 @@ def slips():
     names = [(call, name) for _, name, call, _, _, _, _ in VECTORS]
     assert len(names) == len(set(names)), [n for n in names if names.count(n) > 1]
     form = [re.compile(r"COUNTS( \d+){5}|REFUSED [234] AT \d+"), re.compile(r"PART( \d+)*"),
-            re.compile(r"(MOVED|NOT ENABLED|RUNS OFF \d|REFUSED ([23489]|10) AT \d+) LEFT( -?\d+)*")]
+            re.compile(r"(MOVED|NOT ENABLED|RUNS OFF \d|REFUSED ([23489]|10) AT \d+) LEFT( -?\d+)*"),
+            re.compile(r"(MOVED|NOT ENABLED|REFUSED ([23489]|10) AT \d+) LEFT( -?\d+)*")]
     for _, name, call, _, _, _, answer in VECTORS:
         assert form[call].fullmatch(answer), name
     assert len(stdin_bytes()) < STDIN_LIMIT
@@ -974,7 +1060,7 @@ def main(arguments):
     slips()
     if arguments == ["--list"]:
         for title, name, call, k, _, _, answer in VECTORS:
-            print("%s: %s | %s | %s" % (title, name, ["check", "part %d" % k, "step %d" % k][call], answer))
+            print("%s: %s | %s | %s" % (title, name, ["check", "part %d" % k, "step %d" % k, "rack %d" % k][call], answer))
         return 0
     if len(arguments) != 1 or arguments[0].startswith("-"):
         print("usage: vectors.py OUTDIR | vectors.py --list", file=sys.stderr)

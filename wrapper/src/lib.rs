@@ -234,6 +234,31 @@ fn stepped(s: raw::BnvStep) -> Result<Step, Refusal> {
     }
 }
 
+/// What a rack does with an action, which holds each variable in sixteen bits.
+#[derive(Clone, Copy, Debug, PartialEq, Eq)]
+pub enum Rack {
+    /// What the rack stores has been written: the new values modulo 65,536, in two's complement. They may be off their ranges.
+    Moved,
+    NotEnabled,
+}
+
+/// The rack's step: action k, tried on a state. Guards are worked out exactly; sums and products wrap in sixteen bits.
+///
+/// Where `step` does not answer `RunsOff`, it answers and writes the same; so after the verdict safe the rack's values are the
+/// exact ones, from every start state and along every list of actions.
+pub fn rack_step(words: &[u32], k: usize, state: &mut [i32]) -> Result<Rack, Refusal> {
+    racked(raw::rack_step(words, k, state))
+}
+
+fn racked(s: raw::BnvStep) -> Result<Rack, Refusal> {
+    match s.answer {
+        raw::BNV_NOT_ENABLED => Ok(Rack::NotEnabled),
+        raw::BNV_STEP_REFUSED => Err(Refusal::of(s.refusal, s.value)),
+        raw::BNV_MOVED => Ok(Rack::Moved),
+        other => Err(Refusal::Mismatch(other)),
+    }
+}
+
 /// Whether a lemma is accepted.
 #[derive(Clone, Copy, Debug, PartialEq, Eq)]
 pub enum Ask {
@@ -448,7 +473,7 @@ pub fn origin(graph: &[u32], actions: usize, node: usize) -> Option<(usize, usiz
     there.then_some((parent as usize, action as usize))
 }
 
-/// A show, as its bytes were read: the lists for `check`, `action_part`, `step` and `ask`, and Judge's answer.
+/// A show, as its bytes were read: the lists for `check`, `action_part`, `step`, `rack_step` and `ask`, and Judge's answer.
 #[derive(Clone, Copy, Debug, PartialEq, Eq)]
 pub struct Show<'a> {
     /// The words up to the first of kind 15 and with it; without one, all words.
@@ -600,6 +625,14 @@ mod tests {
         });
         tried(&[BNV_NOT_ENABLED, BNV_RUNS_OFF, BNV_MOVED], |answer| {
             stepped(BnvStep {
+                answer,
+                variable: 0,
+                refusal: 0,
+                value: 0,
+            })
+        });
+        tried(&[BNV_NOT_ENABLED, BNV_MOVED], |answer| {
+            racked(BnvStep {
                 answer,
                 variable: 0,
                 refusal: 0,

@@ -175,6 +175,14 @@ extern "C" {
         state_length: usize,
     ) -> BnvStep;
 
+    fn bnv_rack_step(
+        words: *const u32,
+        words_length: usize,
+        k: usize,
+        state: *mut i32,
+        state_length: usize,
+    ) -> BnvStep;
+
     fn bnv_ask(
         words: *const u32,
         words_length: usize,
@@ -239,6 +247,11 @@ pub fn action_part(words: &[u32], k: usize) -> BnvPart {
 pub fn step(words: &[u32], k: usize, state: &mut [i32]) -> BnvStep {
     let (s, n) = (state.as_mut_ptr(), state.len());
     unsafe { bnv_step(words.as_ptr(), words.len(), k, s, n) }
+}
+
+pub fn rack_step(words: &[u32], k: usize, state: &mut [i32]) -> BnvStep {
+    let (s, n) = (state.as_mut_ptr(), state.len());
+    unsafe { bnv_rack_step(words.as_ptr(), words.len(), k, s, n) }
 }
 
 pub fn ask(words: &[u32], lemmas: &[u32], k: usize) -> BnvAsk {

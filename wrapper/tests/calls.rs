@@ -52,6 +52,37 @@ fn steps() {
     assert_eq!(state, [1000]);
 }
 
+/// A macro that takes 10 off with no guard, and 4 and 5 times two variables.
+#[test]
+fn steps_as_the_rack() {
+    let macro_words = [
+        0x100003E8, 0x40000000, 0x50000000, 0x60000001, 0x70000000, 0x2FFFFFF6, 0x30000001,
+        0xF0000000,
+    ];
+    let mut state = [5];
+    assert_eq!(step(&macro_words, 0, &mut state), Ok(Step::RunsOff(0)));
+    assert_eq!(rack_step(&macro_words, 0, &mut state), Ok(Rack::Moved));
+    assert_eq!(state, [-5]);
+    assert_eq!(
+        rack_step(&macro_words, 0, &mut state),
+        Err(Refusal::State(0))
+    );
+    let sum = [
+        0x10001FFF, 0x10001FFF, 0x40000000, 0x50000000, 0x60000001, 0x70000000, 0x20000000,
+        0x30000004, 0x31000005, 0xF0000000,
+    ];
+    let mut both = [8191, 8191];
+    assert_eq!(rack_step(&sum, 0, &mut both), Ok(Rack::Moved));
+    assert_eq!(both, [8183, 8191]);
+    let logic = &FADE[..LOGIC];
+    state = [4];
+    assert_eq!(rack_step(logic, 0, &mut state), Ok(Rack::NotEnabled));
+    assert_eq!(rack_step(logic, 2, &mut state), Err(Refusal::Absent(2)));
+    assert_eq!(rack_step(logic, 0, &mut []), Err(Refusal::Length(0)));
+    assert_eq!(rack_step(&logic[1..], 0, &mut []), Err(Refusal::Word(0)));
+    assert_eq!(state, [4]);
+}
+
 #[test]
 fn asks() {
     let (logic, lemmas) = FADE.split_at(LOGIC);

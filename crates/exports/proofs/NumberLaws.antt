@@ -33,6 +33,13 @@ step-nonzero NotEnabled = omega arith
 step-nonzero (RunsOff v) = omega arith
 step-nonzero (NotStepped r) = omega arith
 
+-- only runs off is 2
+pub step-two : (s : Stepped) → ((v : ℕ) → s ≡ RunsOff v → ⊥) → stepOf s .answer ≡ 2 → ⊥
+step-two Moved never e = absurd (omega arith)
+step-two NotEnabled never e = absurd (omega arith)
+step-two (RunsOff v) never e = never v refl
+step-two (NotStepped r) never e = absurd (omega arith)
+
 pub ask-nonzero : (a : Asked) → 1 ≤ askOf a .answer
 ask-nonzero Accepted = omega arith
 ask-nonzero NotAccepted = omega arith

@@ -5,6 +5,7 @@ ghost use Prim.Native.Nat.{_+_, _≤_};
 ghost use lib.ListN.{length, take, drop};
 ghost use Rattle.programs.specs.Calls.{read, check, actionPart, partPlace};
 ghost use Rattle.runs.specs.Calls.{stepCall};
+ghost use Rattle.rack.specs.Rack.{rackCall};
 ghost use Rattle.ask.specs.Calls.{ask, TrueIn};
 ghost use Rattle.judge.specs.Calls.{judge};
 ghost use Rattle.judge.specs.Worth.{SafeOf};
@@ -152,6 +153,17 @@ pub extern "C" fn bnv_step(words: &[u32], k: usize, state: &mut [i32]) -> BnvSte
     ensures nonzero { λ r. ⌜ 1 ≤ r .answer ⌝ }
 {
     step_of(runs::step(words, k, &mut *state))
+}
+
+// The rack's step. It never answers BNV_RUNS_OFF.
+#[no_mangle]
+pub extern "C" fn bnv_rack_step(words: &[u32], k: usize, state: &mut [i32]) -> BnvStep
+    ensures answer { λ r. ⌜ r ≡ stepOf (rackCall (now (words .entry)) k (now (state .entry)) .answer) ⌝ }
+    ensures state { λ _. ⌜ now (state .exit) ≡ rackCall (now (words .entry)) k (now (state .entry)) .state ⌝ }
+    ensures nonzero { λ r. ⌜ 1 ≤ r .answer ⌝ }
+    ensures narrow { λ r. ⌜ (r .answer ≡ 2 → ⊥) ⌝ }
+{
+    step_of(rack::rack_step(words, k, &mut *state))
 }
 
 pub const BNV_NOT_ACCEPTED: u32 = 1;

@@ -23,7 +23,7 @@ use Rattle.grammar.specs.WellFormed.{Each, WellFormed}
 use Rattle.runs.specs.Runs.{Inside, valuesFrom, newValue, newState}
 use Rattle.runs.proofs.Sizes.{state-small}
 use Rattle.sixteen.specs.Sixteen.{cut, wrappedSum, wrappedDot, wrappedValue}
-use Rattle.sixteen.proofs.Laws.{wrapped-exact, signed-cut}
+use Rattle.sixteen.proofs.Laws.{cut-below, wrapped-exact, signed-cut}
 use Rattle.rack.specs.Rack.{rackValue, rackState}
 
 -- a number in sixteen bits, read back
@@ -81,3 +81,10 @@ wrapped-between r held = signed-between 16 refl (wrappedSum (wrappedDot 0 (r .co
 pub wrapped-fits : (r : Row) (held : List ℕ) → SFits w32 (wrappedValue r held)
 unfolding up dn
 wrapped-fits r held = let (l, h) = wrapped-between r held in fitting w32 (var (wrappedValue r held)) (omega (arith, le-in h)) (omega (arith, le-in l))
+
+kept-held : (xs : List ℤ) → Held (map kept xs)
+kept-held [] = tt
+kept-held (x ∷ xs) = (between-in (negsuc 32767) (pos 32767) (kept x) (signed-between 16 refl (cut x) (cut-below x)), kept-held xs)
+
+pub state-held : (a : Action) (s : List ℤ) → Held s → Held (rackState a s)
+state-held a s h = rw (state-kept a s h) (kept-held (newState a s))

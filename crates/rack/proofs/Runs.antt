@@ -1,7 +1,7 @@
 -- Where the exact step does not run off, the rack's is the same; so where the exact run does not, it is the rack's; so after safe it always is.
-use mathlib.Core.Path.{_≡_, refl, sym, ap, _∙_}
+use mathlib.Core.Path.{_≡_, refl, sym, ap, subst, _∙_}
 use mathlib.Core.Bool.{Bool, true, false, cond}
-use mathlib.Core.Logic.{inl, inr}
+use mathlib.Core.Logic.{inl}
 use mathlib.Core.List.{List, [], _∷_}
 use Prim.Native.Nat.{ℕ, _<_, _≤_}
 use native.Mathlib.Omega.{arith}
@@ -19,11 +19,11 @@ use Rattle.runs.specs.declared.Stepped.the-variants.{RunsOff as AnswerRunsOff}
 use Rattle.runs.specs.Runs.{Outcome, Moved, NotEnabled, RunsOff, Finished, RanOff, Inside, Start, lowestOff, landed, enabled, actionOf, newState, newValue, step, onward, run, Safe}
 use Rattle.runs.specs.Calls.{Stepping, ready, answered, outcome, stepCall}
 use Rattle.runs.proofs.Answers.{ready-known}
-use Rattle.runs.proofs.Steps.{inside-left}
+use Rattle.runs.proofs.Steps.{Leaves, run-on, inside-left}
 use Rattle.runs.proofs.Trying.{lowest-most}
 use Rattle.runs.proofs.NewValues.{values-length}
 use Rattle.rack.specs.Rack.{rackState, rackStep, rackRun, rackCall}
-use Rattle.rack.proofs.Exact.{Held, held-same, inside-held, state-kept}
+use Rattle.rack.proofs.Exact.{Held, held-same, inside-held, state-kept, state-held}
 
 -- one that lands on its ranges is stored as it is
 same-outcome : (on : Bool) (gs : List Range) (t u : List ℤ) → (length gs ≤ lowestOff gs t → u ≡ t) → (o : Outcome) → cond on (landed gs t) NotEnabled ≡ o
@@ -63,6 +63,17 @@ module _ (p : Program) (good : WellFormed p) where
   pub safe-run : Safe p → (s : List ℤ) → Start p s → (ks : List ℕ) → Each (λ k. k < length (p .actions)) ks → rackRun p ks s ≡ run p ks s
   safe-run safe s h ks known = same-run ks s (h .inside) (safe s h ks known .never-off)
 
+-- the rack's run goes on to the end of the list, and sixteen bits hold every value of every state
+pub goes-on : (p : Program) (ks : List ℕ) (s : List ℤ) → Held s → (rackRun p ks s .ending ≡ Finished) × Each Held (rackRun p ks s .states)
+unfolding rackRun
+goes-on p [] s h = (refl, (h, tt))
+goes-on p (k ∷ ks) s h = pick (enabled (actionOf p k) s) (rackState (actionOf p k) s) (goes-on p ks (rackState (actionOf p k) s) (state-held (actionOf p k) s h)) (goes-on p ks s h)
+  where
+    pick : (b : Bool) (t : List ℤ) → (rackRun p ks t .ending ≡ Finished) × Each Held (rackRun p ks t .states) → (rackRun p ks s .ending ≡ Finished) × Each Held (rackRun p ks s .states)
+        → let r = onward s (cond b (Moved t) NotEnabled) (rackRun p ks) in (r .ending ≡ Finished) × Each Held (r .states)
+    pick true t moved stayed = (moved .0, (h, moved .1))
+    pick false t moved stayed = (stayed .0, (h, stayed .1))
+
 -- the calls: where Step does not run off, the rack's step answers and leaves the same
 pub same-call : (ws : List ℕ) (k : ℕ) (s : List ℤ) → ((v : ℕ) → stepCall ws k s .answer ≡ AnswerRunsOff v → ⊥) → rackCall ws k s ≡ stepCall ws k s
 same-call ws k s never = go (ready (read ws) k s) refl never
@@ -72,3 +83,62 @@ same-call ws k s never = go (ready (read ws) k s) refl never
     go (got p us i) e n =
         let m = ready-known (read ws) k s e in
         ap (λ (o : Outcome). outcome o s) (same-step p (accepted ws p us i (m .is-read) .good) k s (m .inside) refl (λ v f. n v (ap (λ (o : Outcome). outcome o s .answer) f)))
+
+-- the rack's step answers moved or not enabled, or refuses
+pub never-runs-off : (ws : List ℕ) (k : ℕ) (s : List ℤ) (v : ℕ) → rackCall ws k s .answer ≡ AnswerRunsOff v → ⊥
+never-runs-off ws k s v e = go (ready (read ws) k s) e
+  where
+    tried : (b : Bool) (t : List ℤ) → outcome (cond b (Moved t) NotEnabled) s .answer ≡ AnswerRunsOff v → ⊥
+    tried true t f = let z : _≡_ {A = ℕ} 0 1 = cc f in absurd (omega arith)
+    tried false t f = let z : _≡_ {A = ℕ} 0 1 = cc f in absurd (omega arith)
+
+    go : (m : Read Program) → answered rackStep m k s .answer ≡ AnswerRunsOff v → ⊥
+    go (refused r) f = let z : _≡_ {A = ℕ} 0 1 = cc f in absurd (omega arith)
+    go (got p us i) f = tried (enabled (actionOf p k) s) (rackState (actionOf p k) s) f
+
+-- ---- from safe, in the calls' terms
+module _ (ws : List ℕ) (p : Program) {us : List ℕ} {i : ℕ} (q : read ws ≡ got p us i) where
+  -- whatever is tried from a state, nothing runs off
+  abbrev Harmless : List ℤ → Type 0
+  Harmless s = (ks : List ℕ) → Each (λ k. k < length (p .actions)) ks → run p ks s .ending ≡ Finished
+
+  step-off : (k : ℕ) (s : List ℤ) (o : Outcome) (v : ℕ) → step p k s ≡ o → outcome o s .answer ≡ AnswerRunsOff v → run p (k ∷ []) s .ending ≡ RanOff
+  unfolding run
+  step-off k s (Moved t) v e f = let z : _≡_ {A = ℕ} 0 1 = cc f in absurd (omega arith)
+  step-off k s NotEnabled v e f = let z : _≡_ {A = ℕ} 0 1 = cc f in absurd (omega arith)
+  step-off k s (RunsOff w) v e f = rw e refl
+
+  never-off : (s : List ℤ) → Harmless s → (k v : ℕ) → stepCall ws k s .answer ≡ AnswerRunsOff v → ⊥
+  never-off s h k v e = go (ready (read ws) k s) refl e
+    where
+      go : (m : Read Program) → ready (read ws) k s ≡ m → answered step m k s .answer ≡ AnswerRunsOff v → ⊥
+      go (refused r) f g = let z : _≡_ {A = ℕ} 0 1 = cc g in absurd (omega arith)
+      go (got p′ us′ i′) f g =
+          let m = ready-known (read ws) k s f in
+          let same : p′ ≡ p = cc (m .is-read, q) in
+          let known = subst (λ (x : Program). k < length (x .actions)) same (m .known) in
+          let off = step-off k s (step p k s) v refl (subst (λ (x : Program). outcome (step x k s) s .answer ≡ AnswerRunsOff v) same g) in
+          let z : _≡_ {A = ℕ} 0 1 = cc (sym off ∙ h (k ∷ []) (known, tt)) in
+          absurd (omega arith)
+
+  abbrev Same : List ℤ → Type 0
+  Same t = (k : ℕ) → rackCall ws k t ≡ stepCall ws k t
+
+  same-calls : (s : List ℤ) → Harmless s → Same s
+  same-calls s h k = same-call ws k s (never-off s h k)
+
+  harmless-left : (k : ℕ) → k < length (p .actions) → {s t : List ℤ} → Leaves p k s t → Harmless s → Harmless t
+  harmless-left k known g h js each = sym (run-on p k js g .1) ∙ h (k ∷ js) (known, each)
+
+  harmless-calls : (ks : List ℕ) → Each (λ k. k < length (p .actions)) ks → (s : List ℤ) → Harmless s → Each Same (run p ks s .states)
+  unfolding run
+  harmless-calls [] known s h = (same-calls s h, tt)
+  harmless-calls (k ∷ ks) known s h = go (step p k s) refl (harmless-calls ks (known .1))
+    where
+      go : (o : Outcome) → step p k s ≡ o → ((t : List ℤ) → Harmless t → Each Same (run p ks t .states)) → Each Same (onward s (step p k s) (run p ks) .states)
+      go (Moved t) e rest = rw e (same-calls s h, rest t (harmless-left k (known .0) (inl e) h))
+      go NotEnabled e rest = rw e (same-calls s h, rest s h)
+      go (RunsOff v) e rest = rw e (same-calls s h, tt)
+
+  pub safe-calls : Safe p → (s : List ℤ) → Start p s → (ks : List ℕ) → Each (λ k. k < length (p .actions)) ks → Each Same (run p ks s .states)
+  safe-calls safe s h ks known = harmless-calls ks known s (λ js each. safe s h js each .never-off)

@@ -1,5 +1,5 @@
 // Test vectors. Standard input, at most 65,536 bytes, is little-endian words: for each vector a call, a number k, a count n and n words.
-// A vector of Step goes on with a count m and m words, the state's values in two's complement.
+// A vector of Step or of the rack's step goes on with a count m and m words, the state's values in two's complement.
 // Each vector has one line on standard output. Input that breaks off inside a vector ends the run there.
 ghost use Prim.Native.Nat.{_≤_};
 ghost use lib.ListN.{length};
@@ -117,33 +117,43 @@ fn stepped(s: Stepped) {
     }
 }
 
-// Step, on the values of the state's words.
-fn on_state(words: &[u32], k: usize, state: &[u32], values: &mut [i32])
+// The rack's step, or Step.
+fn tried(racked: bool, words: &[u32], k: usize, values: &mut [i32]) -> Stepped {
+    if racked {
+        rack::rack_step(words, k, &mut *values)
+    } else {
+        runs::step(words, k, &mut *values)
+    }
+}
+
+// One of the two on the values of the state's words.
+fn on_state(racked: bool, words: &[u32], k: usize, state: &[u32], values: &mut [i32])
     requires { ⌜ length (now state) ≤ length (now values) ⌝ }
 {
     fill(&mut *values, state);
-    let s = runs::step(words, k, &mut *values);
+    let s = tried(racked, words, k, &mut *values);
     stepped(s);
     left(&values[..]);
 }
 
-// Step, in room for sixteen values.
-fn step(words: &[u32], k: usize, state: &[u32]) {
+// The same, in room for sixteen values.
+fn step(racked: bool, words: &[u32], k: usize, state: &[u32]) {
     let m = state.len();
     if m <= 16 {
         let mut values = [0i32; 16];
-        on_state(words, k, state, &mut values[..m]);
+        on_state(racked, words, k, state, &mut values[..m]);
     } else {
         io::write_all(1, b"NO SUCH CALL");
     }
 }
 
-// The line of one vector, by the number of its call; only Step has a state.
+// The line of one vector, by the number of its call; only the two steps have a state.
 fn answer(call: u32, k: usize, words: &[u32], state: &[u32]) {
     match call {
         0 => check(words),
         1 => part(programs::action_part(words, k)),
-        2 => step(words, k, state),
+        2 => step(false, words, k, state),
+        3 => step(true, words, k, state),
         _ => {
             io::write_all(1, b"NO SUCH CALL");
         }
@@ -151,8 +161,8 @@ fn answer(call: u32, k: usize, words: &[u32], state: &[u32]) {
     io::write_all(1, b"\n");
 }
 
-// The line of Step, whose state's count stands at `at`. Where the vector ends; 0 where it breaks off.
-fn with_state(k: usize, words: &[u32], at: usize) -> usize
+// The line of a step, whose state's count stands at `at`. Where the vector ends; 0 where it breaks off.
+fn with_state(call: u32, k: usize, words: &[u32], at: usize) -> usize
     requires { ⌜ (3 ≤ at) × (at ≤ length (now words)) ⌝ }
     ensures { λ r. ⌜ r ≤ length (now (words .entry)) ⌝ }
 {
@@ -165,7 +175,7 @@ fn with_state(k: usize, words: &[u32], at: usize) -> usize
         return 0;
     }
     let end = start + m;
-    answer(2, k, &words[3..at], &words[start..end]);
+    answer(call, k, &words[3..at], &words[start..end]);
     end
 }
 
@@ -183,8 +193,8 @@ fn first(words: &[u32]) -> usize
     let end = n + 3;
     let call = words[0];
     let k = wide(words[1]);
-    if call == 2 {
-        return with_state(k, words, end);
+    if 2 <= call {
+        return with_state(call, k, words, end);
     }
     answer(call, k, &words[3..end], &words[end..end]);
     end

@@ -1,0 +1,33 @@
+use mathlib.Core.Path.{_≡_, sym, ap, _∙_}
+use Rattle.rack.proofs.Runs.{never-runs-off}
+use Rattle.exports.specs.Numbers.{stepOf}
+use Rattle.exports.proofs.NumberLaws.{step-nonzero, step-two}
+use borrow.Author.Needs.{needs}
+use Rattle.exports.proofs.bnv_rack_step.Statement.{statement}
+use Rattle.exports.proofs.bnv_rack_step.Tie as tie
+
+rack-step-requires : tie.Need-rack-step-requires
+rack-step-requires c κs = search needs
+
+step-of-requires : tie.Need-step-of-requires
+step-of-requires c κs = search needs
+
+same-length : tie.Need-same-length
+same-length c = search needs
+
+returns : tie.Need-returns
+returns c =
+    let racked = c .before .before .rack-step in
+    let f = c .before .before .before .before .before .args in (
+      c .step-of .ensures ∙ ap stepOf (racked .ensures .0),
+      (
+        racked .ensures .1,
+        (
+          rw (c .step-of .ensures) (step-nonzero (racked .result)),
+          rw (c .step-of .ensures) (step-two (racked .result) (λ v e. never-runs-off (f .words .now) (f .k) (f .state .now) v (sym (racked .ensures .0) ∙ e))),
+        ),
+      ),
+    )
+
+pub bnv-rack-step-spec : {M : Type 1} → statement M
+bnv-rack-step-spec = tie.close (tie.spec rack-step-requires step-of-requires same-length returns)
