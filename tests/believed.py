@@ -17,6 +17,7 @@ from definitions import ROOT, Crates, Unknown
 CALLS = {
     "programs": ["check", "action_part", "part_place"],
     "runs": ["step"],
+    "rack": ["rack_step"],
     "ask": ["ask"],
     "judge": ["judge"],
     "findings": ["findings"],

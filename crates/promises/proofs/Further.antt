@@ -1,77 +1,49 @@
--- The promises of what came after the base, with their types and nothing else.
---
--- The calls' own contracts, without any `requires` but `row_at`'s, which is no call from outside; all words are the lent lists' at entry:
---   show::show(bytes, words, g, p)      r, g and p at exit are those of show bytes words g p; words at exit are wordsLeft r bytes words;
---                                       r ≡ Answered l m (Safe n e) → SafeShow bytes                                crates/show/src/lib.rt
---   exports::bnv_show(..)               the same, r as the record of numbers showOf; no call's answer is 0          crates/exports/src/lib.rt
+-- The promises of the requests, with their types and nothing else. The calls' own contracts, without any `requires` but `row_at`'s, which is no call from outside; all words are the lent lists' at entry:
 --   findings::findings(ws, ls, g, f)    r, g and f at exit are those of listing ws ls g f; SheetOf of r and both lists; r ≡ All 0 → SafeOf (read ws);
 --                                       Agrees with Judge's answer, and g at exit is Judge's                        crates/findings/src/lib.rt
---   exports::bnv_findings(..)           the same, r as the record of numbers findingsOf                             crates/exports/src/lib.rt
 --   reader::row_at(words, at, vars)     where vars ≤ 8 and at ≤ length words: r has the row and where reading goes on, or the refusal, of
 --                                       row vars (drop at words) at, and of fed (begun vars at) (drop at words)     crates/reader/src/lib.rt
---   streams::next(way, room, at, a)     r ≡ next way room at a                                                      crates/streams/src/lib.rt
-use mathlib.Core.{Path.{_≡_}, Bool.{true, false, cond}, Logic.{_⊎_, _↔_}, List.{List, _∷_, _++_, map, List·Memᴰ}}
+--   rack::rack_step(ws, k, s)           r and s at exit are those of rackCall ws k s                                  crates/rack/src/lib.rt
+--   exports::bnv_findings, _rack_step   the same, r as the records of numbers findingsOf and stepOf; the rack's answer is not 2  crates/exports/src/lib.rt
+use mathlib.Core.{Path.{_≡_}, Bool.{true, false, cond}, Logic.{_⊎_, _↔_}, List.{List, [], _∷_, _++_, map, List·Memᴰ}}
 use Prim.Native.Nat.{ℕ, _+_, _%_, _^_, _≤_, _<_}
-use lib.{Dec.{eqb}, IntN.{ℤ, pos}, ListN.{length, getD}}
-use Rattle.words.specs.{Words.{kindOf, FINDING}, Limits.{mostNodes, mostFindings, mostVariables}, declared.Refusal.the-variants.{Word as Missing}}
-use Rattle.words.specs.LiteralSets.{Literal, B, NotB, predicateOf, literalsIn}
+use lib.{Dec.{eqb}, IntN.{ℤ, pos, negsuc, _+ℤ_, _*ℤ_}, ListN.{length, getD}}
+use Rattle.words.specs.{Words.{kindOf, FINDING, signed}, Limits.{mostNodes, mostFindings, mostVariables}, declared.Refusal.the-variants.{Word as Missing}, LiteralSets.{Literal, B, NotB, predicateOf, literalsIn}}
 use Rattle.rows.specs.{declared.Row.{Row}, Rows.{rowValue}}
-use Rattle.grammar.specs.{Programs.{Assignment, Program}, WellFormed.{Each, WellFormed}, Grammar.{row}}
+use Rattle.grammar.specs.{Reading.{got}, Programs.{Assignment, Action, Program}, WellFormed.{Each, WellFormed}, Grammar.{row}}
 use Rattle.feed.specs.{declared.Fed.the-variants.{End}, declared.Said.the-variants.{Complete, Refused}, Steps.{Held, place, rowStep, fed, begun}}
 use Rattle.lemmas.specs.{Lemmas.{HoldsAfter, FailsAfter, Lemma}, LemmaGrammar.{LemmaOk, setsVariable}}
-use Rattle.runs.specs.Runs.{Start, run}
+use Rattle.programs.specs.Calls.{read}
+use Rattle.runs.specs.{declared.Stepped.the-variants.{Moved, RunsOff}, Runs.{Inside, Start, newState, Finished, run}, Calls.{stay, stepCall}}
+use Rattle.sixteen.specs.Sixteen.{in16, cut, wrappedValue}
+use Rattle.rack.specs.Rack.{rackState, rackRun, rackCall}
 use Rattle.frame.specs.Frame.{zeroOn, untouched}
 use Rattle.formula.specs.Formula.{False, And, Disabled, Then, follows}
 use Rattle.search.specs.Search.{Graph, count}
 use Rattle.abstraction.specs.{Abstraction.{among, shown, successor, graph}, Faithful.{Faithful}}
 use Rattle.verdict.specs.Verdicts.{Finding, findings}
 use Rattle.sheet.specs.Sheets.{findingWord, Fits, Due, Sheet, Told}
-use Rattle.judge.specs.declared.Judged.the-variants.{Safe as IsSafe}
-use Rattle.little.specs.LittleEndian.{bytesOf, Below}
-use Rattle.show.specs.{declared.Shown.the-variants.{Answered}, Show.{wordsIn, show, SafeShow}}
-use Rattle.streams.specs.{declared.Way.{Way}, declared.Answer.{Answer}, declared.Progress.the-variants.{Going, Whole}, Streams.{mostTries, streamed, WholeOf}}
-
--- the words in a show's bytes are those whose bytes they are, and the other way
-pub words-in-bytes : (ws : List ℕ) → Below 4294967296 ws → wordsIn (bytesOf ws) ≡ ws
-words-in-bytes = Rattle.show.proofs.Bytes.words-in-bytes
-
-pub bytes-of-show : (b : List ℕ) → length b % 4 ≡ 0 → Below 256 b → bytesOf (wordsIn b) ≡ b
-bytes-of-show = Rattle.show.proofs.Bytes.bytes-of-show
-
--- demand 3 from a file's bytes
-pub show-safe : (b wl gl pl : List ℕ) (l m n e : ℕ) → show b wl gl pl .answer ≡ Answered l m (IsSafe n e) → SafeShow b
-show-safe b wl gl pl l m n e = Rattle.show.proofs.Safe.show-safe b gl pl l m n e wl
-
--- a stream that is taken for whole was read or written whole: whatever the calls answered, none of them failed but with a passing error, few of these, and a read came to the end
-pub whole-stream : (way : Way) (room n : ℕ) (answers : List Answer) → streamed way room (Going 0 0) answers ≡ Whole n → WholeOf way room n answers
-whole-stream = Rattle.streams.proofs.Whole.whole-stream
-
--- and it comes to an end: one that is still going has had no more answers than there are bytes and tries
-pub ends-soon : (way : Way) (room done tries : ℕ) (answers : List Answer) → streamed way room (Going 0 0) answers ≡ Going done tries → length answers ≤ room + mostTries
-ends-soon = Rattle.streams.proofs.Whole.ends-soon
+use Rattle.judge.specs.{declared.Judged.the-variants.{Safe as IsSafe}, Calls.{judge}}
+use Rattle.worked.specs.Shows.{row2, incident, incidentProgram}
 
 -- ---- request 1: untouched predicates keep their literal
 -- a literal is in the successor exactly if an accepted lemma shows it, or the action leaves its predicate untouched and it is a literal of the node
 pub successor-literals : (p : Program) (ls : List Lemma) (k : ℕ) (node next : List Literal) → successor p ls k node ≡ And next → (m : Literal)
-    → List·Memᴰ m next ↔ ((predicateOf m < length (p .predicates))
-    × ((shown p ls k node (Then m) ≡ true) ⊎ ((untouched p k (predicateOf m) ≡ true) × List·Memᴰ m node)))
+    → List·Memᴰ m next ↔ ((predicateOf m < length (p .predicates)) × ((shown p ls k node (Then m) ≡ true) ⊎ ((untouched p k (predicateOf m) ≡ true) × List·Memᴰ m node)))
 successor-literals p ls k node next e = Rattle.abstraction.proofs.Kept.successor-literals p ls k node e
 
 -- there is none exactly if a lemma shows that the action cannot happen, or both literals of a predicate follow
 pub no-successor : (p : Program) (ls : List Lemma) (k : ℕ) (node : List Literal) → let known = follows (shown p ls k node) (untouched p k) (λ m. among m node) in
-    (successor p ls k node ≡ False)
-    ↔ ((shown p ls k node Disabled ≡ true) ⊎ ((j : ℕ) × (j < length (p .predicates)) × (known (B j) ≡ true) × (known (NotB j) ≡ true)))
+    (successor p ls k node ≡ False) ↔ ((shown p ls k node Disabled ≡ true) ⊎ ((j : ℕ) × (j < length (p .predicates)) × (known (B j) ≡ true) × (known (NotB j) ≡ true)))
 no-successor p ls k node = Rattle.formula.proofs.Laws.false-is (shown p ls k node) (untouched p k) (λ m. among m node) (length (p .predicates))
 
 -- so a lemma for the opposite of a literal that is kept still gives no successor
 pub opposed-none : (p : Program) (ls : List Lemma) (k : ℕ) (node : List Literal) (j : ℕ) → j < length (p .predicates) → untouched p k j ≡ true
-    → (List·Memᴰ (B j) node × (shown p ls k node (Then (NotB j)) ≡ true)) ⊎ (List·Memᴰ (NotB j) node × (shown p ls k node (Then (B j)) ≡ true))
-    → successor p ls k node ≡ False
+    → (List·Memᴰ (B j) node × (shown p ls k node (Then (NotB j)) ≡ true)) ⊎ (List·Memᴰ (NotB j) node × (shown p ls k node (Then (B j)) ≡ true)) → successor p ls k node ≡ False
 opposed-none = Rattle.abstraction.proofs.Kept.opposed-none
 
 -- the law behind it: a row with a zero coefficient on every variable that is set keeps its value, at any new state that agrees with the old one on the others
-pub frame : (ss : List Assignment) (r : Row) (s t : List ℤ) → zeroOn ss r ≡ true
-    → ((v : ℕ) → setsVariable ss v ≡ false → getD t v (pos 0) ≡ getD s v (pos 0)) → rowValue r t ≡ rowValue r s
+pub frame : (ss : List Assignment) (r : Row) (s t : List ℤ) → zeroOn ss r ≡ true → ((v : ℕ) → setsVariable ss v ≡ false → getD t v (pos 0) ≡ getD s v (pos 0)) → rowValue r t ≡ rowValue r s
 frame = Rattle.frame.proofs.Frame.frame
 
 -- a lemma that says of an untouched predicate what stands among its own premises can be left out: graph and findings stay
@@ -108,11 +80,40 @@ pub nothing-missed : (p : Program) → WellFormed p → (ls : List Lemma) → Ea
 nothing-missed = Rattle.findings.proofs.Missed.nothing-missed
 
 -- ---- request 3: read a row once
--- for any list of words: the steps, fed the words one after the other, give what the grammar's reader of a row gives, from the same index: the row with the words that
--- are left, the one that ended it the first of them, or the refusal
+-- the steps, fed the words of any list one after the other, give what the grammar's reader of a row gives: the row with the words that are left, the one that ended it first, or the refusal
 pub row-in-steps : (vars : ℕ) → vars ≤ mostVariables → (i : ℕ) (ws : List ℕ) → fed (begun vars i) ws ≡ row vars ws i
 row-in-steps = Rattle.feed.proofs.Feeding.fed-row
 
 -- the list's end always decides: 2 before the ROW, and after it the row is complete
 pub end-decides : (h : Held) → rowStep h End .said ≡ cond (eqb (h .kept .taken) 0) (Refused (Missing (place (h .kept)))) Complete
 end-decides = Rattle.feed.proofs.Laws.end-decides
+
+-- ---- request 4: the rack's sixteen bits
+-- cutting is modulo 65,536; what a row gives in sixteen bits is its exact value, cut and read as two's complement; every number that sixteen bits hold is read back
+pub sixteen-bits : ((z : ℤ) → (cut z < 65536) × ((q : ℤ) × (z ≡ pos (cut z) +ℤ q *ℤ pos 65536)))
+    × ((r : Row) (s : List ℤ) → wrappedValue r (map cut s) ≡ signed 16 (cut (rowValue r s))) × ((z : ℤ) → in16 z ≡ true → signed 16 (cut z) ≡ z)
+sixteen-bits = (λ z. (Rattle.sixteen.proofs.Laws.cut-below z, Rattle.sixteen.proofs.Laws.cut-modulo z), Rattle.sixteen.proofs.Laws.wrapped-exact, Rattle.sixteen.proofs.Laws.signed-cut)
+
+-- so from any state that sixteen bits hold, the rack stores the exact new values modulo 65,536; its run never ends early, and sixteen bits hold every value on the way
+pub rack-stores : (s : List ℤ) → Each (λ z. in16 z ≡ true) s → ((a : Action) → rackState a s ≡ map (λ z. signed 16 (cut z)) (newState a s))
+    × ((p : Program) (ks : List ℕ) → (rackRun p ks s .ending ≡ Finished) × Each (λ t. Each (λ z. in16 z ≡ true) t) (rackRun p ks s .states))
+rack-stores s h = (λ a. Rattle.rack.proofs.Exact.state-kept a s h, λ p ks. Rattle.rack.proofs.Runs.goes-on p ks s h)
+
+-- the call answers moved or not enabled, or refuses; where Step does not run off, it answers and leaves what Step does
+pub rack-call : (ws : List ℕ) (k : ℕ) (s : List ℤ) → ((v : ℕ) → rackCall ws k s .answer ≡ RunsOff v → ⊥) × (((v : ℕ) → stepCall ws k s .answer ≡ RunsOff v → ⊥) → rackCall ws k s ≡ stepCall ws k s)
+rack-call ws k s = (Rattle.rack.proofs.Runs.never-runs-off ws k s, Rattle.rack.proofs.Runs.same-call ws k s)
+
+-- where the exact run of a list of actions does not run off, it is the rack's: every state, the moves and the ending
+pub rack-run : (p : Program) → WellFormed p → (ks : List ℕ) (s : List ℤ) → Inside p s → run p ks s .ending ≡ Finished → rackRun p ks s ≡ run p ks s
+rack-run = Rattle.rack.proofs.Runs.same-run
+
+-- after Judge's verdict safe: from any start state and along any list of actions the two runs are the same, and at each of its states the two calls are
+pub rack-after-safe : (ws lemmas gl pl : List ℕ) (n e : ℕ) → judge ws lemmas gl pl .answer ≡ IsSafe n e → (p : Program) {us : List ℕ} {i : ℕ} → read ws ≡ got p us i → (s : List ℤ) → Start p s
+    → (ks : List ℕ) → Each (λ k. k < length (p .actions)) ks → (rackRun p ks s ≡ run p ks s) × Each (λ t. (k : ℕ) → rackCall ws k t ≡ stepCall ws k t) (run p ks s .states)
+rack-after-safe ws lemmas gl pl n e h p q = Rattle.rack.proofs.Runs.after-safe ws p q (rw q at (Rattle.judge.proofs.Promised.judge-safe ws lemmas gl pl h))
+
+-- it says something: 5 take 10 is minus 5, where Step runs off and the rack writes, and its run goes on; and a sum of 73,719 is stored as 8,183
+pub rack-incident : (stepCall incident 0 (pos 5 ∷ []) ≡ stay (RunsOff 0) (pos 5 ∷ [])) × (rackCall incident 0 (pos 5 ∷ []) ≡ record { answer = Moved; state = negsuc 4 ∷ [] })
+    × (rackRun incidentProgram (0 ∷ 0 ∷ []) (pos 5 ∷ []) .states ≡ (pos 5 ∷ []) ∷ (negsuc 4 ∷ []) ∷ (negsuc 14 ∷ []) ∷ [])
+    × (let r = row2 (pos 4) (pos 5) (pos 0) in let s = pos 8191 ∷ pos 8191 ∷ [] in (rowValue r s ≡ pos 73719) × (wrappedValue r (map cut s) ≡ pos 8183))
+rack-incident = (Rattle.worked.proofs.Racks.exact-runs-off, Rattle.worked.proofs.Racks.rack-writes, Rattle.worked.proofs.Racks.rack-goes-on, Rattle.worked.proofs.Racks.sum-wraps)

@@ -1,49 +1,35 @@
--- Every promise, with its type and nothing else. The definitions that the types name are in the crates' specs/ folders.
--- The calls' own contracts stand in the sources, without any `requires`; all words are the lent lists' at entry:
+-- Every promise of the base, with its type and nothing else. The calls' own contracts stand in the sources, without any `requires`; all words are the lent lists' at entry:
 --   programs::check(words)             r ≡ check words                                                        crates/programs/src/lib.rt
 --   programs::action_part(words, k)    r ≡ actionPart words k, a part of words from word partPlace .start on  crates/programs/src/lib.rt
 --   runs::step(words, k, state)        r and the state at exit are those of stepCall words k state            crates/runs/src/lib.rt
 --   ask::ask(words, lemmas, k)         r ≡ ask words lemmas k; r ≡ Accepted → TrueIn (read words) lemmas k    crates/ask/src/lib.rt
 --   judge::judge(words, lemmas, g, p)  r, g and p at exit are those of judge words lemmas g p, and Demand2Of; r ≡ Safe n e → SafeOf (read words)  crates/judge/src/lib.rt
 --   view::successor_of(g, n, a, k, j)  r ≡ viewed g n a k j, and so say View::new and View::successor         crates/view/src/lib.rt
+--   show::show(bytes, words, g, p)    r, g and p at exit are those of show bytes words g p; words are wordsLeft r bytes words; r ≡ Answered l m (Safe n e) → SafeShow bytes  crates/show/src/lib.rt
+--   streams::next(way, room, at, a)    r ≡ next way room at a                                                 crates/streams/src/lib.rt
 --   report::report(input, lines)       linesOf input is written; if what was written begins with SAFE, SafeShow input  crates/report/src/lib.rt
 --   exports::bnv_check(..), ..         r is the record of numbers of the call's answer, by checkOf, ..        crates/exports/src/lib.rt
-use mathlib.Core.Path.{_≡_}
-use mathlib.Core.Bool.{true}
-use mathlib.Core.List.{List, [], _∷_, _++_, map}
-use Prim.Native.Nat.{ℕ, _<_}
-use lib.ListN.{length, getD, take}
-use lib.IntN.{ℤ, pos}
-use Rattle.grammar.specs.Reading.{got}
-use Rattle.grammar.specs.Programs.{Program}
-use Rattle.grammar.specs.Grammar.{program}
-use Rattle.grammar.specs.Encoding.{encode, encodeAction, concat}
-use Rattle.grammar.specs.WellFormed.{WellFormed, Each, Few}
+use mathlib.Core.{Path.{_≡_}, Bool.{true}, List.{List, [], _∷_, _++_, map}}
+use Prim.Native.Nat.{ℕ, _+_, _%_, _<_, _≤_}
+use lib.{ListN.{length, getD, take}, IntN.{ℤ, pos}}
+use Rattle.grammar.specs.{Reading.{got}, Programs.{Program}, Grammar.{program}, Encoding.{encode, encodeAction, concat}, WellFormed.{WellFormed, Each, Few}}
 use Rattle.programs.specs.Calls.{read, actionPart}
-use Rattle.runs.specs.declared.Stepped.the-variants.{RunsOff}
-use Rattle.runs.specs.Runs.{Inside, Start, run, Safe}
-use Rattle.runs.specs.Calls.{stepCall}
-use Rattle.lemmas.specs.Lemmas.{Lemma, accepted as lemmaAccepted}
-use Rattle.lemmas.specs.LemmaGrammar.{readLemmas, encodeLemma, LemmaOk}
-use Rattle.lemmas.specs.Truth.{True}
+use Rattle.runs.specs.{declared.Stepped.the-variants.{RunsOff}, Runs.{Inside, Start, run, Safe}, Calls.{stepCall}}
+use Rattle.lemmas.specs.{Lemmas.{Lemma, accepted as lemmaAccepted}, LemmaGrammar.{readLemmas, encodeLemma, LemmaOk}, Truth.{True}}
 use Rattle.search.specs.Search.{Graph, Done, count, edge}
-use Rattle.records.specs.Records.{graphWords, graphList}
-use Rattle.records.specs.Naming.{naming}
-use Rattle.abstraction.specs.Abstraction.{start, answer, graph}
-use Rattle.abstraction.specs.Faithful.{Faithful, Demand2}
-use Rattle.judge.specs.declared.Judged.the-variants.{Safe as IsSafe}
-use Rattle.judge.specs.Calls.{judge}
-use Rattle.judge.specs.Worth.{Drawn, Demand2Of, SafeOf}
+use Rattle.records.specs.{Records.{graphWords, graphList}, Naming.{naming}}
+use Rattle.abstraction.specs.{Abstraction.{start, answer, graph}, Faithful.{Faithful, Demand2}}
+use Rattle.judge.specs.{declared.Judged.the-variants.{Safe as IsSafe}, Calls.{judge}, Worth.{Drawn, Demand2Of, SafeOf}}
 use Rattle.view.specs.Views.{viewed, edgeViewed}
-use Rattle.little.specs.LittleEndian.{bytesOf}
+use Rattle.little.specs.LittleEndian.{bytesOf, Below}
+use Rattle.show.specs.{declared.Shown.the-variants.{Answered}, Show.{wordsIn, show, SafeShow}}
+use Rattle.streams.specs.{declared.Way.{Way}, declared.Answer.{Answer}, declared.Progress.the-variants.{Going, Whole}, Streams.{mostTries, streamed, WholeOf}}
 use Rattle.lines.specs.Text.{text}
-use Rattle.show.specs.Show.{SafeShow}
 use Rattle.report.specs.Report.{linesOf, Begins}
 use Rattle.worked.specs.Shows.{fade, fadeLemmas, house, incident, fadeProgram, houseProgram, incidentProgram}
 
 -- the part of an ACTION word, up to, but without, the next ACTION, SETS or END, is the words of that action and nothing else
-pub part-of-action : (ws : List ℕ) (p : Program) {us : List ℕ} {i : ℕ} → read ws ≡ got p us i
-    → (k : ℕ) → actionPart ws k ≡ getD (map encodeAction (p .actions)) k []
+pub part-of-action : (ws : List ℕ) (p : Program) {us : List ℕ} {i : ℕ} → read ws ≡ got p us i → (k : ℕ) → actionPart ws k ≡ getD (map encodeAction (p .actions)) k []
 part-of-action = Rattle.programs.proofs.ActionParts.part-is
 
 -- two Step calls in a row, neither of which runs off, are the run of the two actions
@@ -52,10 +38,8 @@ pub steps-are-runs : (ws : List ℕ) (p : Program) {us : List ℕ} {i : ℕ} →
     → run p (j ∷ k ∷ []) s .states ≡ s ∷ stepCall ws j s .state ∷ stepCall ws k (stepCall ws j s .state) .state ∷ []
 steps-are-runs = Rattle.runs.proofs.Steps.two-calls
 
--- the definitions say something: the words of the worked shows are these programs, Fade and House have start states, and the logic that takes 10 off
--- a level of 5 is not safe, so no lemma list gets the verdict safe for its words
-pub shows-read : (read fade ≡ got fadeProgram [] (length fade)) × (read house ≡ got houseProgram [] (length house))
-    × (read incident ≡ got incidentProgram [] (length incident))
+-- the definitions say something: the worked shows' words are these programs, Fade and House have start states, and the macro of the incident is not safe, so no lemma list gets the verdict safe for it
+pub shows-read : (read fade ≡ got fadeProgram [] (length fade)) × (read house ≡ got houseProgram [] (length house)) × (read incident ≡ got incidentProgram [] (length incident))
 shows-read = (Rattle.worked.proofs.Starts.fade-read, Rattle.worked.proofs.Starts.house-read, Rattle.worked.proofs.Starts.incident-read)
 
 pub start-states : Start fadeProgram (pos 400 ∷ []) × Start houseProgram (pos 0 ∷ pos 0 ∷ [])
@@ -71,11 +55,10 @@ incident-never-safe = Rattle.worked.proofs.Starts.incident-never-safe
 pub read-encode : (p : Program) → WellFormed p → (j : ℕ) × (program (encode p) 0 ≡ got p [] j)
 read-encode = Rattle.grammar.proofs.ProgramLaws.encoded
 
--- an accepted list is the words of what was read, and what was read is well formed
+-- an accepted list is the words of what was read, and what was read is well formed; and both of a lemma list over a well-formed program
 pub encode-read : (ws : List ℕ) (p : Program) (vs : List ℕ) (j : ℕ) → program ws 0 ≡ got p vs j → (ws ≡ encode p) × WellFormed p
 encode-read ws p vs j h = let a = Rattle.grammar.proofs.ProgramLaws.accepted ws p vs j h in (a .words, a .good)
 
--- the same of a lemma list over a well-formed program
 pub lemmas-read-encode : (p : Program) → WellFormed p → (ls : List Lemma) → Few 512 (LemmaOk p) ls → (j : ℕ) × (readLemmas p (concat encodeLemma ls) ≡ got ls [] j)
 lemmas-read-encode = Rattle.lemmas.proofs.LemmaLaws.lemmas-encoded
 
@@ -99,8 +82,7 @@ pub verdict-left : (ws lemmas gl pl : List ℕ) → let j = judge ws lemmas gl p
 verdict-left = Rattle.judge.proofs.Promised.judge-demand2
 
 -- the count of edges is the number of EDGE words that name a successor, in the words that a verdict leaves
-pub edges-in-words : (p : Program) → WellFormed p → (ls : List Lemma) (g : Graph) (n e : ℕ) (before after : List ℕ) → Drawn p ls g n e before after
-    → naming (take graphWords after) ≡ e
+pub edges-in-words : (p : Program) → WellFormed p → (ls : List Lemma) (g : Graph) (n e : ℕ) (before after : List ℕ) → Drawn p ls g n e before after → naming (take graphWords after) ≡ e
 edges-in-words = Rattle.judge.proofs.Counted.edges-counted
 
 -- demand 3: Judge's verdict safe says that the program is safe, whatever the lemma list
@@ -118,3 +100,21 @@ safe-lines = Rattle.report.proofs.SafeLine.show-safe
 
 pub fade-lines : linesOf (bytesOf (fade ++ fadeLemmas)) ≡ text "SAFE nodes 1 edges 2\n"
 fade-lines = Rattle.worked.proofs.Line.fade-line
+
+-- the words in a show's bytes are those whose bytes they are, and the other way
+pub words-in-bytes : (ws : List ℕ) → Below 4294967296 ws → wordsIn (bytesOf ws) ≡ ws
+words-in-bytes = Rattle.show.proofs.Bytes.words-in-bytes
+
+pub bytes-of-show : (b : List ℕ) → length b % 4 ≡ 0 → Below 256 b → bytesOf (wordsIn b) ≡ b
+bytes-of-show = Rattle.show.proofs.Bytes.bytes-of-show
+
+-- demand 3 from a file's bytes
+pub show-safe : (b wl gl pl : List ℕ) (l m n e : ℕ) → show b wl gl pl .answer ≡ Answered l m (IsSafe n e) → SafeShow b
+show-safe b wl gl pl l m n e = Rattle.show.proofs.Safe.show-safe b gl pl l m n e wl
+
+-- a stream that is taken for whole was read or written whole: whatever the calls answered, none of them failed but with a passing error, few of these, and a read came to the end; one that is still going has had no more answers than there are bytes and tries
+pub whole-stream : (way : Way) (room n : ℕ) (answers : List Answer) → streamed way room (Going 0 0) answers ≡ Whole n → WholeOf way room n answers
+whole-stream = Rattle.streams.proofs.Whole.whole-stream
+
+pub ends-soon : (way : Way) (room done tries : ℕ) (answers : List Answer) → streamed way room (Going 0 0) answers ≡ Going done tries → length answers ≤ room + mostTries
+ends-soon = Rattle.streams.proofs.Whole.ends-soon

@@ -15,14 +15,14 @@ use Rattle.words.specs.Words.{signed}
 use Rattle.words.proofs.Laws.{signed-between}
 use Rattle.rows.specs.declared.Row.{Row}
 use Rattle.rows.specs.declared.Range.{Range}
-use Rattle.rows.specs.Rows.{between, rowValue}
+use Rattle.rows.specs.Rows.{rowValue}
 use Rattle.rows.specs.Bounds.{small, maxState}
-use Rattle.rows.proofs.Laws.{Between, between-out, between-in}
+use Rattle.rows.proofs.Laws.{Between, between-in}
 use Rattle.grammar.specs.Programs.{Assignment, Action, Program}
 use Rattle.grammar.specs.WellFormed.{Each, WellFormed}
 use Rattle.runs.specs.Runs.{Inside, valuesFrom, newValue, newState}
 use Rattle.runs.proofs.Sizes.{state-small}
-use Rattle.sixteen.specs.Sixteen.{cut, wrappedSum, wrappedDot, wrappedValue}
+use Rattle.sixteen.specs.Sixteen.{in16, cut, wrappedSum, wrappedDot, wrappedValue}
 use Rattle.sixteen.proofs.Laws.{cut-below, wrapped-exact, signed-cut}
 use Rattle.rack.specs.Rack.{rackValue, rackState}
 
@@ -32,11 +32,11 @@ kept z = signed 16 (cut z)
 
 -- sixteen bits hold every value of a state
 abbrev pub Held : List ℤ → Type 0
-Held s = Each (λ z. between (negsuc 32767) (pos 32767) z ≡ true) s
+Held s = Each (λ z. in16 z ≡ true) s
 
 held-at : (s : List ℤ) (v : ℕ) → Held s → kept (getD s v (pos 0)) ≡ getD s v (pos 0)
 held-at [] v h = refl
-held-at (x ∷ s) zero h = let (l, m) = between-out (negsuc 32767) (pos 32767) x (h .0) in signed-cut x l m
+held-at (x ∷ s) zero h = signed-cut x (h .0)
 held-at (x ∷ s) (suc v) h = held-at s v (h .1)
 
 pub held-same : (s : List ℤ) → Held s → map kept s ≡ s
@@ -61,7 +61,7 @@ pub state-kept : (a : Action) (s : List ℤ) → Held s → rackState a s ≡ ma
 state-kept a s h = values-kept (rackValue (a .sets) s) (newValue (a .sets) s) 0 (length s) (λ v. value-kept (a .sets) s v h)
 
 -- ---- what sixteen bits hold
-within-held : {z : ℤ} → Within maxState z → between (negsuc 32767) (pos 32767) z ≡ true
+within-held : {z : ℤ} → Within maxState z → in16 z ≡ true
 unfolding up dn
 within-held {z} h = let x = within-in h in between-in (negsuc 32767) (pos 32767) z (below (var (negsuc 32767)) (var z) (omega arith), below (var z) (num 32767) (omega arith))
 

@@ -1,4 +1,4 @@
--- Where the exact step does not run off, the rack's is the same; so where the exact run does not, it is the rack's; so after safe it always is.
+-- Where the exact step does not run off, the rack's is the same; so where the exact run does not, it is the rack's; so after safe they are the same, runs and calls.
 use mathlib.Core.Path.{_≡_, refl, sym, ap, subst, _∙_}
 use mathlib.Core.Bool.{Bool, true, false, cond}
 use mathlib.Core.Logic.{inl}
@@ -59,9 +59,6 @@ module _ (p : Program) (good : WellFormed p) where
           let r = same-step k s h e (λ v z. let y : _≡_ {A = ℕ} 0 1 = cc z in absurd (omega arith)) in
           rw (r, e, rest s h g) refl
       go (RunsOff v) e g rest = let z : _≡_ {A = ℕ} 0 1 = cc g in absurd (omega arith)
-
-  pub safe-run : Safe p → (s : List ℤ) → Start p s → (ks : List ℕ) → Each (λ k. k < length (p .actions)) ks → rackRun p ks s ≡ run p ks s
-  safe-run safe s h ks known = same-run ks s (h .inside) (safe s h ks known .never-off)
 
 -- the rack's run goes on to the end of the list, and sixteen bits hold every value of every state
 pub goes-on : (p : Program) (ks : List ℕ) (s : List ℤ) → Held s → (rackRun p ks s .ending ≡ Finished) × Each Held (rackRun p ks s .states)
@@ -140,5 +137,6 @@ module _ (ws : List ℕ) (p : Program) {us : List ℕ} {i : ℕ} (q : read ws �
       go NotEnabled e rest = rw e (same-calls s h, rest s h)
       go (RunsOff v) e rest = rw e (same-calls s h, tt)
 
-  pub safe-calls : Safe p → (s : List ℤ) → Start p s → (ks : List ℕ) → Each (λ k. k < length (p .actions)) ks → Each Same (run p ks s .states)
-  safe-calls safe s h ks known = harmless-calls ks known s (λ js each. safe s h js each .never-off)
+  pub after-safe : Safe p → (s : List ℤ) → Start p s → (ks : List ℕ) → Each (λ k. k < length (p .actions)) ks → (rackRun p ks s ≡ run p ks s) × Each Same (run p ks s .states)
+  after-safe safe s h ks known =
+      (same-run p (accepted ws p us i q .good) ks s (h .inside) (safe s h ks known .never-off), harmless-calls ks known s (λ js each. safe s h js each .never-off))

@@ -65,7 +65,8 @@ abbrev pub tried : Begun → List ℤ → Stepping
 tried b s =
     let t = take (length s) (map (λ r. rowValue r (b .old)) (b .rows)) in
     let v = lowestOff (take (length s) (b .ranges)) t in
-    cond (allHold (take (b .guards) (b .guard)) (b .old)) (cond (ltb v (length s)) (stay (RunsOff v) s) (record { answer = Moved; state = t })) (stay NotEnabled s)
+    cond (allHold (take (b .guards) (b .guard)) (b .old))
+    (cond (ltb v (length s)) (stay (RunsOff v) s) (record { answer = Moved; state = t })) (stay NotEnabled s)
 
 abbrev pub rowIf : Bool → Row → List Row
 rowIf b r = cond b (r ∷ []) []

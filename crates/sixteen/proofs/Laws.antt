@@ -1,5 +1,6 @@
 -- Laws of sixteen bits: cut is modulo 65,536, sums and products of cut numbers are those of the numbers, and a number that sixteen bits hold is read back. Assumes nothing.
 use mathlib.Core.Path.{_≡_, refl, sym, ap, _∙_}
+use mathlib.Core.Bool.{true}
 use mathlib.Core.List.{List, [], _∷_, map}
 use Prim.Native.Nat.{ℕ, suc, _+_, _-_, _*_, _/_, _%_, _<_, _≤_, _^_}
 use native.Mathlib.Omega.{arith}
@@ -13,7 +14,8 @@ use Rattle.words.specs.Words.{signed, unsigned}
 use Rattle.words.proofs.Laws.{signed-unsigned}
 use Rattle.rows.specs.declared.Row.{Row}
 use Rattle.rows.specs.Rows.{dot, rowValue}
-use Rattle.sixteen.specs.Sixteen.{cut, wrappedSum, wrappedProduct, wrappedDot, wrappedValue}
+use Rattle.rows.proofs.Laws.{between-out}
+use Rattle.sixteen.specs.Sixteen.{in16, cut, wrappedSum, wrappedProduct, wrappedDot, wrappedValue}
 
 pub cut-below : (z : ℤ) → cut z < 65536
 cut-below (pos n) = omega arith
@@ -83,8 +85,8 @@ unfolding up dn
 same-bits (pos n) l h = omega (arith, le-in h)
 same-bits (negsuc n) l h = omega (arith, le-in l)
 
-pub signed-cut : (z : ℤ) → negsuc 32767 ≤ℤ z → z ≤ℤ pos 32767 → signed 16 (cut z) ≡ z
-signed-cut z l h = ap (signed 16) (same-bits z l h) ∙ signed-unsigned 16 refl z l h
+pub signed-cut : (z : ℤ) → in16 z ≡ true → signed 16 (cut z) ≡ z
+signed-cut z e = let (l, h) = between-out (negsuc 32767) (pos 32767) z e in ap (signed 16) (same-bits z l h) ∙ signed-unsigned 16 refl z l h
 
 -- ---- the loops
 -- one product more

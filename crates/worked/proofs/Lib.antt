@@ -3,3 +3,4 @@ pub mod Zeros
 pub mod Table
 pub mod Sheets
 pub mod Line
+pub mod Racks

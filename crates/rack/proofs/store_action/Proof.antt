@@ -1,5 +1,6 @@
 use mathlib.Core.Path.{_≡_, refl, sym, _∙_}
 use mathlib.Core.List.{map}
+use native.Mathlib.Omega.{arith}
 use borrow.Author.Needs.{needs}
 use Rattle.integers.proofs.Tests.{not-true, not-false}
 use Rattle.sixteen.specs.Sixteen.{cut, wrappedValue}
@@ -11,7 +12,7 @@ new-is : (c : tie.After-values) → let b = c .before .before .before .before .b
 new-is c = rw (c .before .hold .ensures) at (c .values .ensures)
 
 all-hold-requires : tie.Need-all-hold-requires
-all-hold-requires c κs = let g = c .before .before .pre .0 in (g .guards-few, g .guards, g .old)
+all-hold-requires c κs = let g = c .before .before .pre .0 in (omega (arith, g .guards-few), g .guards, g .old)
 
 returns : tie.Need-returns
 returns c = let e = sym (c .before .all-hold .ensures) ∙ not-true _ (c .if1 .taken) in rw e (refl, refl)

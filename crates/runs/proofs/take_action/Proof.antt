@@ -30,7 +30,7 @@ off-is : (c : tie.After-lowest-off) → let s = c .before .before .before .befor
 off-is c = rw (c .before .before .values .ensures) at (c .lowest-off .ensures)
 
 all-hold-requires : tie.Need-all-hold-requires
-all-hold-requires c κs = let g = c .before .before .pre .0 in (g .guards-few, g .guards, g .old)
+all-hold-requires c κs = let g = c .before .before .pre .0 in (omega (arith, g .guards-few), g .guards, g .old)
 
 returns : tie.Need-returns
 returns c = let e = sym (c .before .all-hold .ensures) ∙ not-true _ (c .if1 .taken) in rw e (refl, refl)
