@@ -68,12 +68,15 @@ impl Lists {
     }
 }
 
+/// A step of either side.
+type Stepping = fn(&[u32], usize, &mut [i32]) -> library::BnvStep;
+
 struct Table {
     /// Seconds for each side of a cell.
     span: f64,
     lists: Lists,
     /// Library time of the row before, per call.
-    before: [Option<f64>; 5],
+    before: [Option<f64>; 6],
 }
 
 impl Table {
@@ -85,7 +88,7 @@ impl Table {
     }
 
     fn cell(&mut self, row: &str, call: usize, (library, other): (f64, f64), growth: bool) {
-        let name = ["check", "step", "ask", "judge", "findings"][call];
+        let name = ["check", "step", "rack", "ask", "judge", "findings"][call];
         let grown = match self.before[call] {
             Some(before) if growth => format!("{:.2}", library / before),
             _ => "-".to_string(),
@@ -132,7 +135,22 @@ impl Table {
         )
     }
 
-    /// All five calls on one show.
+    /// Step or the rack's step, the last action on the show's state.
+    fn steps(&mut self, show: &Show, ours: Stepping, theirs: Stepping) -> (f64, f64) {
+        let words = &show.stepped;
+        let last = library::check(words).actions - 1;
+        let answer = ours(words, last, &mut show.state.clone());
+        assert_eq!(answer, theirs(words, last, &mut show.state.clone()), "{}", show.name);
+        assert_eq!(answer.answer, library::BNV_MOVED, "{}: {answer:?}", show.name);
+        let step = |call: Stepping| {
+            let mut state = [0; 8];
+            state.copy_from_slice(&show.state);
+            black_box(call(black_box(words), last, black_box(&mut state)));
+        };
+        times(self.span, || step(ours), || step(theirs))
+    }
+
+    /// All six calls on one show.
     fn row(&mut self, show: &Show, growth: bool) {
         let (program, lemmas) = (&show.program, &show.lemmas);
         let span = self.span;
@@ -146,25 +164,10 @@ impl Table {
             },
         );
         self.cell(&show.name, 0, checked, growth);
-        let stepped = &show.stepped;
-        let last = library::check(stepped).actions - 1;
-        let ours = library::step(stepped, last, &mut show.state.clone());
-        assert_eq!(ours, other::step(stepped, last, &mut show.state.clone()), "{}", show.name);
-        assert_eq!(ours.answer, library::BNV_MOVED, "{}: {ours:?}", show.name);
-        let stepped = times(
-            span,
-            || {
-                let mut state = [0; 8];
-                state.copy_from_slice(&show.state);
-                black_box(library::step(black_box(stepped), last, black_box(&mut state)));
-            },
-            || {
-                let mut state = [0; 8];
-                state.copy_from_slice(&show.state);
-                black_box(other::step(black_box(stepped), last, black_box(&mut state)));
-            },
-        );
+        let stepped = self.steps(show, library::step, other::step);
         self.cell(&show.name, 1, stepped, growth);
+        let racked = self.steps(show, library::rack_step, other::rack_step);
+        self.cell(&show.name, 2, racked, growth);
         let k = show.count - 1;
         assert_eq!(library::ask(program, lemmas, k), other::ask(program, lemmas, k), "{}", show.name);
         let asked = times(
@@ -176,11 +179,11 @@ impl Table {
                 black_box(other::ask(black_box(program), black_box(lemmas), k));
             },
         );
-        self.cell(&show.name, 2, asked, growth);
+        self.cell(&show.name, 3, asked, growth);
         let judged = self.judge(show);
-        self.cell(&show.name, 3, judged, growth);
+        self.cell(&show.name, 4, judged, growth);
         let found = self.findings(show);
-        self.cell(&show.name, 4, found, growth);
+        self.cell(&show.name, 5, found, growth);
     }
 }
 
@@ -207,6 +210,8 @@ fn once(words: &[String]) -> Option<()> {
             ("check", false) => { black_box(other::check(black_box(program))); }
             ("step", true) => { black_box(library::step(black_box(&show.stepped), last, &mut state)); }
             ("step", false) => { black_box(other::step(black_box(&show.stepped), last, &mut state)); }
+            ("rack", true) => { black_box(library::rack_step(black_box(&show.stepped), last, &mut state)); }
+            ("rack", false) => { black_box(other::rack_step(black_box(&show.stepped), last, &mut state)); }
             ("ask", true) => { black_box(library::ask(black_box(program), lemmas, k)); }
             ("ask", false) => { black_box(other::ask(black_box(program), lemmas, k)); }
             ("judge", true) => { black_box(library::judge(black_box(program), lemmas, &mut graph, &mut path)); }
@@ -223,7 +228,7 @@ fn main() {
     let words: Vec<String> = std::env::args().skip(1).collect();
     if words.first().is_some_and(|w| w == "once") {
         if once(&words[1..]).is_none() {
-            eprintln!("usage: bench once library|other check|step|ask|judge|findings NODES|rig8 TIMES");
+            eprintln!("usage: bench once library|other check|step|rack|ask|judge|findings NODES|rig8 TIMES");
             std::process::exit(2);
         }
         return;
@@ -232,7 +237,7 @@ fn main() {
     let mut table = Table {
         span: f64::from(span) / 1000.0,
         lists: Lists::new(),
-        before: [None; 5],
+        before: [None; 6],
     };
     println!("Processor time, least average of {ROUNDS} rounds; the two sides take turns. The lent lists are not cleared between calls:");
     println!("each call finds what the last one left. Growth: library time over that of the row before. Ask: the last lemma.");
@@ -257,7 +262,7 @@ fn main() {
     for (what, kept) in ["slowest", "steepest"].into_iter().zip(worst) {
         let (_, show) = kept.unwrap();
         let judged = table.judge(&show);
-        table.cell(&format!("{what}: {}", show.name), 3, judged, false);
+        table.cell(&format!("{what}: {}", show.name), 4, judged, false);
     }
 
     println!();

@@ -52,12 +52,13 @@ pub fn used(show: &Show) -> Vec<(&'static str, usize)> {
     let (mut f, mut l) = (vec![0; GRAPH_WORDS], vec![0; PATH_WORDS]);
     let mut words = vec![0; library::BNV_SHOW_WORDS as usize];
     let bytes: Vec<u8> = program.iter().chain(lemmas).flat_map(|w| w.to_le_bytes()).collect();
-    let mut state = show.state.clone();
+    let (mut state, mut racked) = (show.state.clone(), show.state.clone());
     vec![
         ("nothing", on_a_thread(|| { black_box(()); })),
         ("check", on_a_thread(|| { black_box(library::check(program)); })),
         ("action part", on_a_thread(|| { black_box(library::action_part(program, 0)); })),
         ("step", on_a_thread(move || { black_box(library::step(program, 0, &mut state)); })),
+        ("rack", on_a_thread(move || { black_box(library::rack_step(program, 0, &mut racked)); })),
         ("ask", on_a_thread(|| { black_box(library::ask(program, lemmas, k)); })),
         ("judge", on_a_thread(move || { black_box(library::judge(program, lemmas, &mut g, &mut p)); })),
         ("findings", on_a_thread(move || { black_box(library::findings(program, lemmas, &mut f, &mut l)); })),

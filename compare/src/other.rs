@@ -1,8 +1,8 @@
-//! The independent code behind the same eight calls. Fields that an answer does not use are 0.
+//! The independent code behind the same nine calls. Fields that an answer does not use are 0.
 
 use bulanevior::raw::*;
 use independent::bytes::Shown;
-use independent::{Asked, Judged, Listed, Stepped};
+use independent::{Asked, Judged, Listed, Racked, Stepped};
 
 /// Records of zeros, which are no answers.
 const NO_CHECK: BnvCheck =
@@ -40,6 +40,14 @@ pub fn step(words: &[u32], k: usize, state: &mut [i32]) -> BnvStep {
         Stepped::NotEnabled => BnvStep { answer: BNV_NOT_ENABLED, ..NO_STEP },
         Stepped::RunsOff(variable) => BnvStep { answer: BNV_RUNS_OFF, variable, ..NO_STEP },
         Stepped::Refused(r) => BnvStep { answer: BNV_STEP_REFUSED, refusal: r.number, value: r.value as usize, ..NO_STEP },
+    }
+}
+
+pub fn rack_step(words: &[u32], k: usize, state: &mut [i32]) -> BnvStep {
+    match independent::rack_step(words, k, state) {
+        Racked::Moved => BnvStep { answer: BNV_MOVED, ..NO_STEP },
+        Racked::NotEnabled => BnvStep { answer: BNV_NOT_ENABLED, ..NO_STEP },
+        Racked::Refused(r) => BnvStep { answer: BNV_STEP_REFUSED, refusal: r.number, value: r.value as usize, ..NO_STEP },
     }
 }
 

@@ -143,6 +143,9 @@ module _ (ws : List ℕ) {g : Image} (h : Held ws g) (k : ℕ) (s : List ℤ) wh
           (λ i. record { status = Ready; ranges = same i .ranges; old = padded s; guards = f′ i .guards; guard = f′ i .guard; rows = f′ i .rows })
 
 -- ---- with what was begun
+pub both : {a b : Stepping} → a ≡ b → (a .answer ≡ b .answer) × (a .state ≡ b .state)
+both e = (ap (λ (y : Stepping). y .answer) e, ap (λ (y : Stepping). y .state) e)
+
 pub answered-refused : (f : Program → ℕ → List ℤ → Outcome) (m : Read Program) (k : ℕ) (s : List ℤ) {b : Begun} {r : Refusal} → b ≡ begun m k s → b .status ≡ Failed r → stay (Refused r) s ≡ answered f m k s
 answered-refused f (got p us i) k s e h = let z : _≡_ {A = ℕ} 0 1 = cc (ap (λ (y : Begun). y .status) e) in absurd (omega arith)
 answered-refused f (refused q) k s e h = ap (λ (r : Refusal). stay (Refused r) s) (cc (ap (λ (y : Begun). y .status) e))
