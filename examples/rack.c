@@ -4,7 +4,7 @@
  *     rack shows/incident.words 5 -- 0
  *
  * The first line says whether the show is safe; then there is a line for each action, up to the first at which the two differ. The exit status: 0 the
- * rack's values are the exact ones; 1 they are not; 3 the show, an action or the values are refused; 2 trouble.
+ * rack's values are the exact ones; 1 they are not; 3 the show, an action or the values are refused, or the file is cut or too long; 2 trouble.
  */
 #include <errno.h>
 #include <stdio.h>
@@ -13,7 +13,7 @@
 
 #include "bulanevior.h"
 
-enum { SAME = 0, DIFFER = 1, TROUBLE = 2, REFUSED = 3, MOST_VALUES = 8 };
+enum { SAME = 0, DIFFER = 1, TROUBLE = 2, REFUSED = 3, MOST = 1000 };
 
 static uint8_t bytes[BNV_SHOW_BYTES + 1];
 static uint32_t words[BNV_SHOW_WORDS];
@@ -26,10 +26,44 @@ static int trouble(const char *what)
     return TROUBLE;
 }
 
+static int mismatch(uint32_t number)
+{
+    fprintf(stderr, "the library is of another version: %u is no answer\n", number);
+    return TROUBLE;
+}
+
 static int refused(uint32_t number, size_t value)
 {
     printf("refused: %u AT %zu\n", number, value);
     return REFUSED;
+}
+
+/* Whether a show is safe, or why there is nothing to press. */
+static int print_show(BnvShow s)
+{
+    if (s.answer == BNV_TOO_LONG) {
+        printf("too long: more than 65,536 bytes\n");
+        return REFUSED;
+    }
+    if (s.answer == BNV_ODD_BYTES) {
+        printf("odd bytes: the file was cut\n");
+        return REFUSED;
+    }
+    if (s.answer != BNV_JUDGED)
+        return mismatch(s.answer);
+    switch (s.judged.verdict) {
+    case BNV_SAFE:
+        printf("safe\n");
+        return SAME;
+    case BNV_MAY_FORBID:
+    case BNV_MAY_RUN_OFF:
+        printf("not safe\n");
+        return SAME;
+    case BNV_JUDGE_REFUSED:
+        return refused(s.judged.refusal, s.judged.value);
+    default:
+        return mismatch(s.judged.verdict);
+    }
 }
 
 /* Reads the file and judges it: how many words its logic has, or 0 with the exit status. */
@@ -42,32 +76,29 @@ static size_t load(const char *name, int *status)
         return 0;
     }
     size_t size = fread(bytes, 1, sizeof bytes, file);
-    if (ferror(file)) {
+    int failed = ferror(file);
+    if (failed)
         perror(name);
-        fclose(file);
-        return 0;
-    }
     fclose(file);
+    if (failed)
+        return 0;
     BnvShow s = bnv_show(bytes, size, words, BNV_SHOW_WORDS, graph, BNV_GRAPH_WORDS, path, BNV_PATH_WORDS);
-    if (s.answer != BNV_JUDGED) {
-        *status = trouble("this is no show file: it is too long, or was cut");
-        return 0;
-    }
-    if (s.judged.verdict == BNV_JUDGE_REFUSED) {
-        *status = refused(s.judged.refusal, s.judged.value);
-        return 0;
-    }
-    printf(s.judged.verdict == BNV_SAFE ? "safe\n" : "not safe\n");
-    return s.logic;
+    *status = print_show(s);
+    return *status == SAME ? s.logic : 0;
 }
 
-/* A whole number from `low` to `high`. */
-static int number(const char *text, long low, long high, long *out)
+/* Whole numbers from `low` to `high`, up to `--` or the end: how many, or -1. */
+static int numbers(char **texts, long low, long high, long *out)
 {
-    char *end;
-    errno = 0;
-    *out = strtol(text, &end, 10);
-    return end != text && *end == 0 && errno == 0 && low <= *out && *out <= high;
+    int n = 0;
+    for (; texts[n] && strcmp(texts[n], "--") != 0; n++) {
+        char *end;
+        errno = 0;
+        out[n] = strtol(texts[n], &end, 10);
+        if (end == texts[n] || *end || errno || out[n] < low || out[n] > high)
+            return -1;
+    }
+    return n;
 }
 
 /* What a step answers, and the state behind it. */
@@ -89,10 +120,12 @@ static int press(size_t logic, size_t k, int32_t *exact, int32_t *rack, size_t n
 {
     BnvStep e = bnv_step(words, logic, k, exact, n);
     BnvStep r = bnv_rack_step(words, logic, k, rack, n);
-    if (r.answer == BNV_STEP_REFUSED)
-        return refused(r.refusal, r.value);
+    if (e.answer == BNV_STEP_REFUSED)
+        return refused(e.refusal, e.value);
+    if (e.answer != BNV_MOVED && e.answer != BNV_NOT_ENABLED && e.answer != BNV_RUNS_OFF)
+        return mismatch(e.answer);
     if (r.answer != BNV_MOVED && r.answer != BNV_NOT_ENABLED)
-        return trouble("the library is of another version");
+        return mismatch(r.answer);
     printf("action %zu: ", k);
     print("exact", e, exact, n);
     print("; rack", r, rack, n);
@@ -100,27 +133,11 @@ static int press(size_t logic, size_t k, int32_t *exact, int32_t *rack, size_t n
     return e.answer == r.answer && memcmp(exact, rack, n * sizeof *rack) == 0 ? SAME : DIFFER;
 }
 
-static int run(int argc, char **argv)
+/* The actions, one after the other. */
+static int presses(size_t logic, const long *actions, int count, int32_t *exact, int32_t *rack, size_t n)
 {
-    int32_t exact[MOST_VALUES], rack[MOST_VALUES];
-    size_t n = 0;
-    int at = 2, status;
-    long x;
-    for (; at < argc && strcmp(argv[at], "--") != 0; at++) {
-        if (n == MOST_VALUES || !number(argv[at], INT32_MIN, INT32_MAX, &x))
-            return trouble("at most eight values of 32 bits");
-        exact[n] = rack[n] = (int32_t)x;
-        n++;
-    }
-    if (at >= argc)
-        return trouble("usage: rack FILE VALUE.. -- ACTION..");
-    size_t logic = load(argv[1], &status);
-    if (logic == 0)
-        return status;
-    for (at++; at < argc; at++) {
-        if (!number(argv[at], 0, INT32_MAX, &x))
-            return trouble("an action is a number from 0 on");
-        status = press(logic, (size_t)x, exact, rack, n);
+    for (int i = 0; i < count; i++) {
+        int status = press(logic, (size_t)actions[i], exact, rack, n);
         if (status == DIFFER)
             printf("the rack's values are not the exact ones\n");
         if (status != SAME)
@@ -128,6 +145,27 @@ static int run(int argc, char **argv)
     }
     printf("the rack's values are the exact ones\n");
     return SAME;
+}
+
+static int run(int argc, char **argv)
+{
+    static long values[MOST], actions[MOST];
+    static int32_t exact[MOST], rack[MOST];
+    if (argc < 3 || argc > MOST)
+        return trouble("usage: rack FILE VALUE.. -- ACTION..");
+    int n = numbers(argv + 2, INT32_MIN, INT32_MAX, values);
+    if (n < 0)
+        return trouble("values of 32 bits");
+    if (!argv[2 + n])
+        return trouble("usage: rack FILE VALUE.. -- ACTION..");
+    int count = numbers(argv + 3 + n, 0, UINT32_MAX, actions);
+    if (count < 0 || argv[3 + n + count])
+        return trouble("an action is a number from 0 on");
+    for (int v = 0; v < n; v++)
+        exact[v] = rack[v] = (int32_t)values[v];
+    int status;
+    size_t logic = load(argv[1], &status);
+    return status == SAME ? presses(logic, actions, count, exact, rack, (size_t)n) : status;
 }
 
 int main(int argc, char **argv)

@@ -164,7 +164,7 @@ typedef struct {
 BnvStep bnv_step(const uint32_t *words, size_t words_length, size_t k, int32_t *state, size_t state_length);
 
 /*
- * ---- The rack's step: what a rack does with action k, which holds each variable in sixteen bits.
+ * ---- The rack's step: what a rack, which holds each variable in sixteen bits, does with action k.
  *
  * Guards are worked out exactly. The new values are worked out in sixteen bits: coefficients and constants are cut to them, products and
  * sums wrap, and the result is read as two's complement. BNV_MOVED writes these values, also where bnv_step answers BNV_RUNS_OFF; they

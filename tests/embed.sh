@@ -1,6 +1,6 @@
 #!/bin/bash
-# The static library from C and from Rust: the header as C11 and as C++17, each call on Fade, and the examples on shows and in trouble, those in C and in
-# Rust of which print the same and end with the same status. It prints `ok` at the end. `rt staticlib exports` is run only where the library is missing.
+# The static library from C and from Rust: the header as C11 and as C++17, each call on Fade, and the examples on shows and in trouble, each in C and in
+# Rust; the two print the same and end with the same status. It prints `ok` at the end. `rt staticlib exports` is run only where the library is missing.
 set -eu
 cd "$(dirname "$(readlink -f "$0")")/.."
 room=$(mktemp -d)
@@ -103,7 +103,8 @@ presses() { # STATUS LINES ARGUMENT..
             || fail "$program $*: not as expected, status $status"
     done
 }
-# The incident: 5 take 10 is minus 5. Mended, the guard holds it. A sum that wraps into its range: 4 and 5 times 8,191 is 73,719, less 65,536.
+# The incident: 5 take 10 is minus 5. Mended, the guard holds it. Products that wrap, and a sum that does not. A sum that wraps onto its range: 4 and 5 times
+# 8,191 is 73,719, less 65,536 it is 8,183.
 presses 1 "not safe
 action 0: exact runs off at variable 0, 5; rack moves, -5
 the rack's values are not the exact ones" shows/incident.words 5 -- 0 0
@@ -112,6 +113,10 @@ action 0: exact moves, 15; rack moves, 15
 action 0: exact moves, 5; rack moves, 5
 action 0: exact is not enabled, 5; rack is not enabled, 5
 the rack's values are the exact ones" shows/incident_mended.words 25 -- 0 0 0
+presses 0 "safe
+action 0: exact moves, 5 8191; rack moves, 5 8191
+action 0: exact is not enabled, 5 8191; rack is not enabled, 5 8191
+the rack's values are the exact ones" shows/difference.words 8191 8191 -- 0 0
 words "$room/sum" 10001FFF 10001FFF 40000000 50000000 60000001 70000000 20000000 30000004 31000005 F0000000
 presses 1 "not safe
 action 0: exact runs off at variable 0, 8191 8191; rack moves, 8183 8191
@@ -126,11 +131,19 @@ refused: 8 AT 2' shows/fade.words 5 -- 2
 presses 0 "safe
 the rack's values are the exact ones" shows/fade.words 5 --
 presses 3 'refused: 2 AT 5' "$room/short" 5 -- 0
+presses 3 'safe
+refused: 9 AT 9' shows/fade.words 1 2 3 4 5 6 7 8 9 -- 0
+presses 3 'safe
+refused: 8 AT 4294967295' shows/fade.words 5 -- 4294967295
+presses 3 'odd bytes: the file was cut' "$room/odd" 5 -- 0
+presses 3 'too long: more than 65,536 bytes' /dev/zero 5 -- 0
+# Trouble: nothing is said of the show.
 for program in "${racks[@]}"; do
-    for arguments in "" "shows/fade.words 5" "shows/fade.words x -- 0" "shows/fade.words 5 -- -1" "$room/odd 5 -- 0" "$room/missing 5 -- 0"; do
+    for arguments in "" "shows/fade.words 5" "shows/fade.words x -- 0" "shows/fade.words 2147483648 -- 0" "shows/fade.words 5 -- -1" \
+        "shows/fade.words 5 -- 0 x" "shows/fade.words 5 -- 0 -- 0" "$room/missing 5 -- 0"; do
         status=0
         "$program" $arguments >"$room/out" 2>"$room/err" || status=$?
-        [ "$status" -eq 2 ] && [ -s "$room/err" ] || fail "$program $arguments: status $status"
+        [ "$status" -eq 2 ] && [ -s "$room/err" ] && [ ! -s "$room/out" ] || fail "$program $arguments: status $status"
     done
     status=0
     "$program" shows/fade.words 5 -- 0 >/dev/full 2>"$room/err" || status=$?

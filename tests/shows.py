@@ -84,6 +84,15 @@ show("incident_mended", logic([LEVEL], AT_5, [], [action([(-10, {0: 1})], OFF_10
      "SAFE nodes 1 edges 1")
 
 # ---------------------------------------------------------------------------------------------------------------------
+# A thousand times the difference of two faders that agree, and 5. A rack's products wrap on the way, 1,000 times 8,191 is 8,191,000; their sum does not.
+# The rows afterwards are 1000 first - 1000 second + 5 + 8192 and 8191 - 5 - 1000 first + 1000 second. Negated, with 1000 times the guard that first is not
+# below second, or not above it: -8197 - 1 and -8186 - 1.
+WIDE = (-8192, 8191)
+AGREE = [(0, {0: 1, 1: -1}), (0, {0: -1, 1: 1})]
+show("difference", logic([WIDE, WIDE], [], [], [action(AGREE, {0: (5, {0: 1000, 1: -1000})})], []) + lemma(0, LOW, 0, [1, 1000, 0]) + lemma(0, HIGH, 0, [1, 0, 1000]),
+     "SAFE nodes 1 edges 1")
+
+# ---------------------------------------------------------------------------------------------------------------------
 # A chase over three lamps, of which one is on: lamp 0 at the start; action k puts lamp k out and the next one on.
 # Predicate k: lamp k is on (lamp - 1 at least 0). Forbidden: 0 and 1, 1 and 2, 0 and 2.
 NEXT = [1, 2, 0]

@@ -1,8 +1,6 @@
 //! Request 4, "The rack's sixteen bits": steps and runs worked out by hand, every refusal, and sweeps beside
 //! the exact values modulo 65,536.
 
-use std::io::Write;
-use std::process::{Command, Output, Stdio};
 
 use independent::program::{read, Program};
 use independent::shows::*;
@@ -728,67 +726,4 @@ fn fade_is_safe_in_the_rack() {
             assert_eq!(rack_run(&program, &actions, &[level]), states);
         }
     }
-}
-
-// ---------------------------------------------------------------------------------------------
-// The binary
-
-fn output(arguments: &[&str], bytes: &[u8]) -> Output {
-    let mut command = Command::new(env!("CARGO_BIN_EXE_rack"));
-    command.args(arguments).stdin(Stdio::piped()).stdout(Stdio::piped()).stderr(Stdio::piped());
-    let mut child = command.spawn().unwrap();
-    // Bad arguments end it before it reads.
-    let _ = child.stdin.take().unwrap().write_all(bytes);
-    child.wait_with_output().unwrap()
-}
-
-fn bytes_of(words: &[u32]) -> Vec<u8> {
-    words.iter().flat_map(|word| word.to_le_bytes()).collect()
-}
-
-fn prints(arguments: &str, words: &[u32], lines: &[&str]) {
-    let arguments: Vec<&str> = arguments.split(' ').filter(|text| !text.is_empty()).collect();
-    let output = output(&arguments, &bytes_of(words));
-    assert!(output.status.success() && output.stderr.is_empty());
-    let expected: String = lines.iter().map(|line| format!("{line}\n")).collect();
-    assert_eq!(String::from_utf8(output.stdout).unwrap(), expected);
-}
-
-#[test]
-fn the_binary() {
-    let lines = [
-        "ACTION 0 EXACT moved LEFT 5 | RACK moved LEFT 5",
-        "ACTION 0 EXACT runs off 0 LEFT 5 | RACK moved LEFT -5",
-        "ACTION 0 EXACT runs off 0 LEFT 5 | RACK refused 10 AT 0 LEFT -5",
-        "ACTION 1 EXACT refused 8 AT 1 LEFT 5 | RACK refused 8 AT 1 LEFT -5",
-    ];
-    prints("15 -- 0 0 0 1", &INCIDENT, &lines);
-    // Lemmas are ignored, whatever they are.
-    prints("15 -- 0 0 0 1", &[&INCIDENT[..], &[0xF0000000, 1, 2]].concat(), &lines);
-    prints("15 --", &INCIDENT, &[]);
-    let home = [
-        "ACTION 1 EXACT moved LEFT 500 0 | RACK moved LEFT 500 0",
-        "ACTION 0 EXACT not enabled LEFT 500 0 | RACK not enabled LEFT 500 0",
-    ];
-    prints("0 0 -- 1 0", &house().words(), &home);
-    prints("-- 0", &FADE, &["ACTION 0 EXACT refused 9 AT 0 LEFT | RACK refused 9 AT 0 LEFT"]);
-    prints("-1 -- 0", &FADE, &["ACTION 0 EXACT refused 10 AT 0 LEFT -1 | RACK refused 10 AT 0 LEFT -1"]);
-    prints("5 -- 0", &[], &["ACTION 0 EXACT refused 2 AT 0 LEFT 5 | RACK refused 2 AT 0 LEFT 5"]);
-    // "without one, all words are logic"
-    prints("5 -- 0", &FADE[..15], &["ACTION 0 EXACT refused 2 AT 15 LEFT 5 | RACK refused 2 AT 15 LEFT 5"]);
-}
-
-/// Bad arguments and bytes that are no whole words: a message and exit status 1.
-#[test]
-fn the_binary_without_a_line() {
-    let fade = bytes_of(&FADE);
-    let wide = ["2147483648", "--", "0"];
-    for arguments in [&["5", "0"][..], &["x", "--", "0"], &["5", "--", "-1"], &wide, &[]] {
-        let output = output(arguments, &fade);
-        assert_eq!(output.status.code(), Some(1));
-        assert!(output.stdout.is_empty() && !output.stderr.is_empty());
-    }
-    let output = output(&["5", "--", "0"], &fade[..63]);
-    assert_eq!(output.status.code(), Some(1));
-    assert!(output.stdout.is_empty() && !output.stderr.is_empty());
 }

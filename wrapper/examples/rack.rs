@@ -5,7 +5,7 @@
 //!
 //! The first line says whether the show is safe; then there is a line for each action, up to the first at which the two
 //! differ. The exit status: 0 the rack's values are the exact ones; 1 they are not; 3 the show, an action or the values are
-//! refused; 2 trouble.
+//! refused, or the file is cut or too long; 2 trouble.
 use bulanevior::*;
 use std::fs::File;
 use std::io::{Read, Write};
@@ -30,6 +30,13 @@ fn refused(why: Refusal) -> Ended {
             REFUSED,
             format!("refused: {} AT {}\n", why.number(), why.value()),
         ),
+    }
+}
+
+fn no_show(why: NoShow) -> Ended {
+    match why {
+        NoShow::TooLong | NoShow::OddBytes => (REFUSED, format!("{why}\n")),
+        why => trouble(why),
     }
 }
 
@@ -82,15 +89,10 @@ fn press(
 }
 
 /// The lines of the actions, and the exit status.
-fn presses(
-    logic: &[u32],
-    values: &[i32],
-    actions: &[usize],
-    said: &mut String,
-) -> Result<u8, Ended> {
+fn presses(logic: &[u32], values: &[i32], actions: &[u32], said: &mut String) -> Result<u8, Ended> {
     let (mut exact, mut rack) = (values.to_vec(), values.to_vec());
     for k in actions {
-        let (line, same) = press(logic, *k, &mut exact, &mut rack)?;
+        let (line, same) = press(logic, *k as usize, &mut exact, &mut rack)?;
         said.push_str(&line);
         if !same {
             said.push_str("the rack's values are not the exact ones\n");
@@ -114,11 +116,11 @@ fn run(arguments: &[String], said: &mut String) -> Result<u8, Ended> {
     let middle = arguments.iter().position(|a| a == "--").ok_or_else(usage)?;
     let (name, values) = arguments[..middle].split_first().ok_or_else(usage)?;
     let values: Vec<i32> = numbers(values, "values of 32 bits")?;
-    let actions: Vec<usize> = numbers(&arguments[middle + 1..], "an action is a number from 0 on")?;
+    let actions: Vec<u32> = numbers(&arguments[middle + 1..], "an action is a number from 0 on")?;
     let bytes = load(name).map_err(|e| trouble(format!("{name}: {e}")))?;
     let mut words = vec![0; SHOW_WORDS];
     let (mut graph, mut path) = (vec![0; GRAPH_WORDS], vec![0; PATH_WORDS]);
-    let show = show(&bytes, &mut words, &mut graph, &mut path).map_err(trouble)?;
+    let show = show(&bytes, &mut words, &mut graph, &mut path).map_err(no_show)?;
     show.answer.map_err(refused)?;
     said.push_str(if show.is_safe() {
         "safe\n"

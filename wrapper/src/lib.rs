@@ -234,7 +234,7 @@ fn stepped(s: raw::BnvStep) -> Result<Step, Refusal> {
     }
 }
 
-/// What a rack does with an action, which holds each variable in sixteen bits.
+/// What a rack, which holds each variable in sixteen bits, does with an action.
 #[derive(Clone, Copy, Debug, PartialEq, Eq)]
 pub enum Rack {
     /// What the rack stores has been written: the new values modulo 65,536, in two's complement. They may be off their ranges.

@@ -161,7 +161,7 @@ pub extern "C" fn bnv_rack_step(words: &[u32], k: usize, state: &mut [i32]) -> B
     ensures answer { λ r. ⌜ r ≡ stepOf (rackCall (now (words .entry)) k (now (state .entry)) .answer) ⌝ }
     ensures state { λ _. ⌜ now (state .exit) ≡ rackCall (now (words .entry)) k (now (state .entry)) .state ⌝ }
     ensures nonzero { λ r. ⌜ 1 ≤ r .answer ⌝ }
-    ensures narrow { λ r. ⌜ (r .answer ≡ 2 → ⊥) ⌝ }
+    ensures never_off { λ r. ⌜ (r .answer ≡ 2 → ⊥) ⌝ }
 {
     step_of(rack::rack_step(words, k, &mut *state))
 }

@@ -6,7 +6,7 @@
 --   rack::rack_step(ws, k, s)           r and s at exit are those of rackCall ws k s                                  crates/rack/src/lib.rt
 --   exports::bnv_findings, _rack_step   the same, r as the records of numbers findingsOf and stepOf; the rack's answer is not 2  crates/exports/src/lib.rt
 use mathlib.Core.{Path.{_≡_}, Bool.{true, false, cond}, Logic.{_⊎_, _↔_}, List.{List, [], _∷_, _++_, map, List·Memᴰ}}
-use Prim.Native.Nat.{ℕ, _+_, _%_, _^_, _≤_, _<_}
+use Prim.Native.Nat.{ℕ, _^_, _≤_, _<_}
 use lib.{Dec.{eqb}, IntN.{ℤ, pos, negsuc, _+ℤ_, _*ℤ_}, ListN.{length, getD}}
 use Rattle.words.specs.{Words.{kindOf, FINDING, signed}, Limits.{mostNodes, mostFindings, mostVariables}, declared.Refusal.the-variants.{Word as Missing}, LiteralSets.{Literal, B, NotB, predicateOf, literalsIn}}
 use Rattle.rows.specs.{declared.Row.{Row}, Rows.{rowValue}}
@@ -15,7 +15,7 @@ use Rattle.feed.specs.{declared.Fed.the-variants.{End}, declared.Said.the-varia
 use Rattle.lemmas.specs.{Lemmas.{HoldsAfter, FailsAfter, Lemma}, LemmaGrammar.{LemmaOk, setsVariable}}
 use Rattle.programs.specs.Calls.{read}
 use Rattle.runs.specs.{declared.Stepped.the-variants.{Moved, RunsOff}, Runs.{Inside, Start, newState, Finished, run}, Calls.{stay, stepCall}}
-use Rattle.sixteen.specs.Sixteen.{in16, cut, wrappedValue}
+use Rattle.sixteen.specs.Sixteen.{in16, cut, wrappedSum, wrappedProduct, wrappedValue}
 use Rattle.rack.specs.Rack.{rackState, rackRun, rackCall}
 use Rattle.frame.specs.Frame.{zeroOn, untouched}
 use Rattle.formula.specs.Formula.{False, And, Disabled, Then, follows}
@@ -24,7 +24,7 @@ use Rattle.abstraction.specs.{Abstraction.{among, shown, successor, graph}, Fai
 use Rattle.verdict.specs.Verdicts.{Finding, findings}
 use Rattle.sheet.specs.Sheets.{findingWord, Fits, Due, Sheet, Told}
 use Rattle.judge.specs.{declared.Judged.the-variants.{Safe as IsSafe}, Calls.{judge}}
-use Rattle.worked.specs.Shows.{row2, incident, incidentProgram}
+use Rattle.worked.specs.Shows.{incident, incidentProgram, nineTimes}
 
 -- ---- request 1: untouched predicates keep their literal
 -- a literal is in the successor exactly if an accepted lemma shows it, or the action leaves its predicate untouched and it is a literal of the node
@@ -89,10 +89,11 @@ pub end-decides : (h : Held) → rowStep h End .said ≡ cond (eqb (h .kept .tak
 end-decides = Rattle.feed.proofs.Laws.end-decides
 
 -- ---- request 4: the rack's sixteen bits
--- cutting is modulo 65,536; what a row gives in sixteen bits is its exact value, cut and read as two's complement; every number that sixteen bits hold is read back
+-- cutting is modulo 65,536, and so are the wrapped sum and product; what a row gives in sixteen bits is its exact value, cut and read as two's complement; what sixteen bits hold is read back
 pub sixteen-bits : ((z : ℤ) → (cut z < 65536) × ((q : ℤ) × (z ≡ pos (cut z) +ℤ q *ℤ pos 65536)))
+    × ((a b : ℤ) → (cut (a +ℤ b) ≡ wrappedSum (cut a) (cut b)) × (cut (a *ℤ b) ≡ wrappedProduct (cut a) (cut b)))
     × ((r : Row) (s : List ℤ) → wrappedValue r (map cut s) ≡ signed 16 (cut (rowValue r s))) × ((z : ℤ) → in16 z ≡ true → signed 16 (cut z) ≡ z)
-sixteen-bits = (λ z. (Rattle.sixteen.proofs.Laws.cut-below z, Rattle.sixteen.proofs.Laws.cut-modulo z), Rattle.sixteen.proofs.Laws.wrapped-exact, Rattle.sixteen.proofs.Laws.signed-cut)
+sixteen-bits = Rattle.sixteen.proofs.Laws.sixteen-bits
 
 -- so from any state that sixteen bits hold, the rack stores the exact new values modulo 65,536; its run never ends early, and sixteen bits hold every value on the way
 pub rack-stores : (s : List ℤ) → Each (λ z. in16 z ≡ true) s → ((a : Action) → rackState a s ≡ map (λ z. signed 16 (cut z)) (newState a s))
@@ -112,8 +113,8 @@ pub rack-after-safe : (ws lemmas gl pl : List ℕ) (n e : ℕ) → judge ws lemm
     → (ks : List ℕ) → Each (λ k. k < length (p .actions)) ks → (rackRun p ks s ≡ run p ks s) × Each (λ t. (k : ℕ) → rackCall ws k t ≡ stepCall ws k t) (run p ks s .states)
 rack-after-safe ws lemmas gl pl n e h p q = Rattle.rack.proofs.Runs.after-safe ws p q (rw q at (Rattle.judge.proofs.Promised.judge-safe ws lemmas gl pl h))
 
--- it says something: 5 take 10 is minus 5, where Step runs off and the rack writes, and its run goes on; and a sum of 73,719 is stored as 8,183
+-- it says something: 5 take 10 is minus 5, where Step runs off and the rack writes, and its run goes on; and where 4 and 5 times 8,191, which is 73,719, run off, it writes 8,183
 pub rack-incident : (stepCall incident 0 (pos 5 ∷ []) ≡ stay (RunsOff 0) (pos 5 ∷ [])) × (rackCall incident 0 (pos 5 ∷ []) ≡ record { answer = Moved; state = negsuc 4 ∷ [] })
     × (rackRun incidentProgram (0 ∷ 0 ∷ []) (pos 5 ∷ []) .states ≡ (pos 5 ∷ []) ∷ (negsuc 4 ∷ []) ∷ (negsuc 14 ∷ []) ∷ [])
-    × (let r = row2 (pos 4) (pos 5) (pos 0) in let s = pos 8191 ∷ pos 8191 ∷ [] in (rowValue r s ≡ pos 73719) × (wrappedValue r (map cut s) ≡ pos 8183))
-rack-incident = (Rattle.worked.proofs.Racks.exact-runs-off, Rattle.worked.proofs.Racks.rack-writes, Rattle.worked.proofs.Racks.rack-goes-on, Rattle.worked.proofs.Racks.sum-wraps)
+    × (let s = pos 8191 ∷ pos 8191 ∷ [] in (stepCall nineTimes 0 s ≡ stay (RunsOff 0) s) × (rackCall nineTimes 0 s ≡ record { answer = Moved; state = pos 8183 ∷ pos 8191 ∷ [] }))
+rack-incident = Rattle.worked.proofs.Racks.incident-racked

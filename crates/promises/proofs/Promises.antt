@@ -5,10 +5,10 @@
 --   ask::ask(words, lemmas, k)         r ≡ ask words lemmas k; r ≡ Accepted → TrueIn (read words) lemmas k    crates/ask/src/lib.rt
 --   judge::judge(words, lemmas, g, p)  r, g and p at exit are those of judge words lemmas g p, and Demand2Of; r ≡ Safe n e → SafeOf (read words)  crates/judge/src/lib.rt
 --   view::successor_of(g, n, a, k, j)  r ≡ viewed g n a k j, and so say View::new and View::successor         crates/view/src/lib.rt
---   show::show(bytes, words, g, p)    r, g and p at exit are those of show bytes words g p; words are wordsLeft r bytes words; r ≡ Answered l m (Safe n e) → SafeShow bytes  crates/show/src/lib.rt
+--   show::show(bytes, words, g, p)    r, g and p at exit are those of show bytes words g p; words at exit are wordsLeft r bytes words; r ≡ Answered l m (Safe n e) → SafeShow bytes  crates/show/src/lib.rt
 --   streams::next(way, room, at, a)    r ≡ next way room at a                                                 crates/streams/src/lib.rt
 --   report::report(input, lines)       linesOf input is written; if what was written begins with SAFE, SafeShow input  crates/report/src/lib.rt
---   exports::bnv_check(..), ..         r is the record of numbers of the call's answer, by checkOf, ..        crates/exports/src/lib.rt
+--   exports::bnv_check(..), ..         r is the record of numbers of the call's answer, by checkOf, ..; no answer is 0  crates/exports/src/lib.rt
 use mathlib.Core.{Path.{_≡_}, Bool.{true}, List.{List, [], _∷_, _++_, map}}
 use Prim.Native.Nat.{ℕ, _+_, _%_, _<_, _≤_}
 use lib.{ListN.{length, getD, take}, IntN.{ℤ, pos}}
@@ -38,7 +38,7 @@ pub steps-are-runs : (ws : List ℕ) (p : Program) {us : List ℕ} {i : ℕ} →
     → run p (j ∷ k ∷ []) s .states ≡ s ∷ stepCall ws j s .state ∷ stepCall ws k (stepCall ws j s .state) .state ∷ []
 steps-are-runs = Rattle.runs.proofs.Steps.two-calls
 
--- the definitions say something: the worked shows' words are these programs, Fade and House have start states, and the macro of the incident is not safe, so no lemma list gets the verdict safe for it
+-- the definitions say something: the worked shows' words are these programs, Fade and House have start states, and the macro that takes 10 off a level of 5 is not safe, so no lemma list makes it so
 pub shows-read : (read fade ≡ got fadeProgram [] (length fade)) × (read house ≡ got houseProgram [] (length house)) × (read incident ≡ got incidentProgram [] (length incident))
 shows-read = (Rattle.worked.proofs.Starts.fade-read, Rattle.worked.proofs.Starts.house-read, Rattle.worked.proofs.Starts.incident-read)
 
@@ -112,7 +112,7 @@ bytes-of-show = Rattle.show.proofs.Bytes.bytes-of-show
 pub show-safe : (b wl gl pl : List ℕ) (l m n e : ℕ) → show b wl gl pl .answer ≡ Answered l m (IsSafe n e) → SafeShow b
 show-safe b wl gl pl l m n e = Rattle.show.proofs.Safe.show-safe b gl pl l m n e wl
 
--- a stream that is taken for whole was read or written whole: whatever the calls answered, none of them failed but with a passing error, few of these, and a read came to the end; one that is still going has had no more answers than there are bytes and tries
+-- a stream taken for whole was read or written whole, whatever the calls answered: none failed but with a passing error, few of these, and a read came to the end; one still going has had few answers
 pub whole-stream : (way : Way) (room n : ℕ) (answers : List Answer) → streamed way room (Going 0 0) answers ≡ Whole n → WholeOf way room n answers
 whole-stream = Rattle.streams.proofs.Whole.whole-stream
 

@@ -14,7 +14,6 @@ use Rattle.integers.proofs.Laws.{Within, within-in}
 use Rattle.words.specs.Words.{signed}
 use Rattle.words.proofs.Laws.{signed-between}
 use Rattle.rows.specs.declared.Row.{Row}
-use Rattle.rows.specs.declared.Range.{Range}
 use Rattle.rows.specs.Rows.{rowValue}
 use Rattle.rows.specs.Bounds.{small, maxState}
 use Rattle.rows.proofs.Laws.{Between, between-in}

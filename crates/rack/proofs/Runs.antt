@@ -17,7 +17,7 @@ use Rattle.grammar.proofs.ProgramLaws.{accepted}
 use Rattle.programs.specs.Calls.{read}
 use Rattle.runs.specs.declared.Stepped.the-variants.{RunsOff as AnswerRunsOff}
 use Rattle.runs.specs.Runs.{Outcome, Moved, NotEnabled, RunsOff, Finished, RanOff, Inside, Start, lowestOff, landed, enabled, actionOf, newState, newValue, step, onward, run, Safe}
-use Rattle.runs.specs.Calls.{Stepping, ready, answered, outcome, stepCall}
+use Rattle.runs.specs.Calls.{ready, answered, outcome, stepCall}
 use Rattle.runs.proofs.Answers.{ready-known}
 use Rattle.runs.proofs.Steps.{Leaves, run-on, inside-left}
 use Rattle.runs.proofs.Trying.{lowest-most}

@@ -11,10 +11,9 @@ use mir.Val.{SFits}
 use Rattle.rows.specs.declared.Row.{Row}
 use Rattle.rows.specs.Rows.{rowValue}
 use Rattle.actions.specs.NewRows.{keepRows, assigned}
-use Rattle.grammar.specs.Programs.{Action, Program}
 use Rattle.runs.specs.declared.Begun.{Begun}
 use Rattle.runs.specs.declared.Stepped.the-variants.{Moved, NotEnabled}
-use Rattle.runs.specs.Runs.{Outcome, enabled, actionOf, newState}
+use Rattle.runs.specs.Runs.{Outcome, enabled, actionOf}
 use Rattle.runs.specs.Calls.{outcome, stay}
 use Rattle.runs.specs.Values.{padded}
 use Rattle.runs.proofs.Answers.{Trial, at, well-formed, action-ok}

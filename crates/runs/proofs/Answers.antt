@@ -31,8 +31,8 @@ use Rattle.programs.specs.Places.{places, firstAction}
 use Rattle.programs.proofs.Places.{action-k, stored-at, length-places}
 use Rattle.runs.specs.declared.Begun.{Begun}
 use Rattle.runs.specs.declared.Stepped.the-variants.{Refused}
-use Rattle.runs.specs.Runs.{Outcome, Inside, lowestOff, actionOf, step}
-use Rattle.runs.specs.Calls.{Stepping, stay, outcome, ready, answered, stepCall}
+use Rattle.runs.specs.Runs.{Outcome, Inside, lowestOff, actionOf}
+use Rattle.runs.specs.Calls.{Stepping, stay, ready, answered, stepCall}
 use Rattle.runs.specs.Values.{padded, notBegun, begun, Good, tried}
 use Rattle.runs.proofs.Sizes.{front-stored, guards-read, new-rows-read, read-small, ranges-small, state-small}
 use Rattle.runs.proofs.Trying.{lowest-most}

@@ -3,7 +3,7 @@ use mathlib.Core.Path.{_≡_, refl, sym, ap, _∙_}
 use mathlib.Core.Bool.{Bool, true, false, cond}
 use mathlib.Core.Logic.{_⊎_, inl, inr, ⊎-elim}
 use mathlib.Core.List.{List, [], _∷_}
-use Prim.Native.Nat.{ℕ, suc, _≤_, _<_}
+use Prim.Native.Nat.{ℕ, _≤_, _<_}
 use native.Mathlib.Omega.{arith}
 use lib.Dec.{ltb}
 use lib.IntN.{ℤ}
@@ -14,7 +14,7 @@ use Rattle.grammar.specs.Reading.{Read, got}
 use Rattle.grammar.specs.Programs.{Program}
 use Rattle.programs.specs.Calls.{read}
 use Rattle.runs.specs.declared.Stepped.the-variants.{RunsOff}
-use Rattle.runs.specs.Runs.{Outcome, Finished, Inside, onRange, lowestOff, step, landed, enabled, newValue, newState, actionOf, run}
+use Rattle.runs.specs.Runs.{Outcome, Finished, Inside, lowestOff, step, landed, enabled, newValue, newState, actionOf, run}
 use Rattle.runs.proofs.Answers.{on-range}
 use Rattle.runs.proofs.NewValues.{values-length}
 use Rattle.runs.proofs.Trying.{lowest-most}

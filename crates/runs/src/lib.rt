@@ -7,7 +7,7 @@ ghost use lib.ListN.{length, take, getD, set};
 ghost use mir.Syntax.{w32};
 ghost use mir.Val.{SFits};
 ghost use Rattle.rows.specs.Rows.{rowValue};
-ghost use Rattle.rows.specs.Bounds.{small, Small, smallRanges, maxState};
+ghost use Rattle.rows.specs.Bounds.{small, Small, maxState};
 ghost use Rattle.runs.specs.Runs.{onRange, lowestOff, allHold};
 ghost use Rattle.programs.specs.Calls.{read};
 ghost use Rattle.runs.specs.Calls.{ready, stepCall};

@@ -2,7 +2,7 @@
 use mathlib.Core.Path.{_≡_, refl, sym, ap, _∙_}
 use mathlib.Core.Bool.{true}
 use mathlib.Core.List.{List, [], _∷_, map}
-use Prim.Native.Nat.{ℕ, suc, _+_, _-_, _*_, _/_, _%_, _<_, _≤_, _^_}
+use Prim.Native.Nat.{ℕ, _+_, _-_, _*_, _/_, _%_, _<_, _≤_}
 use native.Mathlib.Omega.{arith}
 use native.Mathlib.Numerals.{add-one}
 use lib.IntN.{ℤ, pos, negsuc, _+ℤ_, _*ℤ_}
@@ -22,7 +22,7 @@ cut-below (pos n) = omega arith
 cut-below (negsuc n) = omega arith
 
 -- z is its lowest sixteen bits and a multiple of 65,536
-pub cut-modulo : (z : ℤ) → (q : ℤ) × (z ≡ pos (cut z) +ℤ q *ℤ pos 65536)
+cut-modulo : (z : ℤ) → (q : ℤ) × (z ≡ pos (cut z) +ℤ q *ℤ pos 65536)
 unfolding up dn
 cut-modulo (pos n) = (pos (n / 65536), equal (num n) (num (n % 65536) ⊕ num (n / 65536) ⊗ num 65536) (omega arith))
 cut-modulo (negsuc n) = (negsuc (n / 65536), equal (var (negsuc n)) (num (65535 - n % 65536) ⊕ var (negsuc (n / 65536)) ⊗ num 65536) (omega arith))
@@ -31,10 +31,10 @@ cut-modulo (negsuc n) = (negsuc (n / 65536), equal (var (negsuc n)) (num (65535 
 only : (n m : ℕ) (q r : ℤ) → n < 65536 → m < 65536 → pos n +ℤ q *ℤ pos 65536 ≡ pos m +ℤ r *ℤ pos 65536 → n ≡ m
 only n m q r h k e = omega (arith, ap up e, ap dn e, law (num n ⊕ var q ⊗ num 65536), law (num m ⊕ var r ⊗ num 65536))
 
-pub cut-is : (z : ℤ) (n : ℕ) (q : ℤ) → n < 65536 → z ≡ pos n +ℤ q *ℤ pos 65536 → cut z ≡ n
+cut-is : (z : ℤ) (n : ℕ) (q : ℤ) → n < 65536 → z ≡ pos n +ℤ q *ℤ pos 65536 → cut z ≡ n
 cut-is z n q h e = let (r, f) = cut-modulo z in only (cut z) n r q (cut-below z) h (sym f ∙ e)
 
-pub cut-sum : (a b : ℤ) → cut (a +ℤ b) ≡ wrappedSum (cut a) (cut b)
+cut-sum : (a b : ℤ) → cut (a +ℤ b) ≡ wrappedSum (cut a) (cut b)
 cut-sum a b =
     let (q, e) = cut-modulo a in
     let (r, f) = cut-modulo b in
@@ -45,7 +45,7 @@ cut-sum a b =
     (ap (λ (x : ℤ). x +ℤ b) e ∙ ap (λ (y : ℤ). pos n +ℤ q *ℤ pos 65536 +ℤ y) f
     ∙ equal ((num n ⊕ var q ⊗ num 65536) ⊕ (num m ⊕ var r ⊗ num 65536)) (num (wrappedSum n m) ⊕ (var q ⊕ var r ⊕ num k) ⊗ num 65536) (omega arith))
 
-pub cut-product : (a b : ℤ) → cut (a *ℤ b) ≡ wrappedProduct (cut a) (cut b)
+cut-product : (a b : ℤ) → cut (a *ℤ b) ≡ wrappedProduct (cut a) (cut b)
 cut-product a b =
     let (q, e) = cut-modulo a in
     let (r, f) = cut-modulo b in
@@ -87,6 +87,11 @@ same-bits (negsuc n) l h = omega (arith, le-in l)
 
 pub signed-cut : (z : ℤ) → in16 z ≡ true → signed 16 (cut z) ≡ z
 signed-cut z e = let (l, h) = between-out (negsuc 32767) (pos 32767) z e in ap (signed 16) (same-bits z l h) ∙ signed-unsigned 16 refl z l h
+
+pub sixteen-bits : ((z : ℤ) → (cut z < 65536) × ((q : ℤ) × (z ≡ pos (cut z) +ℤ q *ℤ pos 65536)))
+    × ((a b : ℤ) → (cut (a +ℤ b) ≡ wrappedSum (cut a) (cut b)) × (cut (a *ℤ b) ≡ wrappedProduct (cut a) (cut b)))
+    × ((r : Row) (s : List ℤ) → wrappedValue r (map cut s) ≡ signed 16 (cut (rowValue r s))) × ((z : ℤ) → in16 z ≡ true → signed 16 (cut z) ≡ z)
+sixteen-bits = (λ z. (cut-below z, cut-modulo z), λ a b. (cut-sum a b, cut-product a b), wrapped-exact, signed-cut)
 
 -- ---- the loops
 -- one product more

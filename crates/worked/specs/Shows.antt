@@ -1,6 +1,6 @@
 -- The worked shows: their words, with Fade's lemmas, and the programs that the words are.
 --
--- fade, house, incident — the logic in words
+-- fade, house, incident, nineTimes — the logic in words
 -- fadeFirst, fadeOthers, fadeLemmas — Fade's lemmas: the first, those behind it, all
 -- row2, level — a row of the first two variables; the range 0..1000
 -- fadeProgram, houseProgram, incidentProgram — the logic as a value
@@ -53,6 +53,14 @@ incident =
     ∷ 0x40000002 ∷ 0x2FFFFFFB ∷ 0x30000001 ∷ 0x20000005 ∷ 0x3000FFFF
     ∷ 0x50000000
     ∷ 0x60000001 ∷ 0x70000000 ∷ 0x2FFFFFF6 ∷ 0x30000001
+    ∷ 0xF0000000 ∷ []
+
+-- Two variables, -8192..8191; the action gives the first 4 times itself and 5 times the second.
+abbrev pub nineTimes : List ℕ
+nineTimes =
+    0x18001FFF ∷ 0x18001FFF
+    ∷ 0x40000000 ∷ 0x50000000
+    ∷ 0x60000001 ∷ 0x70000000 ∷ 0x20000000 ∷ 0x30000004 ∷ 0x31000005
     ∷ 0xF0000000 ∷ []
 
 -- ---- as values

@@ -1,4 +1,4 @@
-use mathlib.Core.Path.{_≡_, sym, ap, _∙_}
+use mathlib.Core.Path.{sym, ap, _∙_}
 use Rattle.rack.proofs.Runs.{never-runs-off}
 use Rattle.exports.specs.Numbers.{stepOf}
 use Rattle.exports.proofs.NumberLaws.{step-nonzero, step-two}
