@@ -5,6 +5,7 @@ use crate::dice::Dice;
 use crate::findings;
 use crate::generate::Input;
 use crate::other;
+use crate::rack::{Call, Tried, STEP};
 use bulanevior::raw::{self as library, BnvFindings, BnvJudge, BNV_JUDGED, BNV_JUDGE_REFUSED, BNV_NODE, BNV_NO_NODE, BNV_SAFE};
 use independent::words::{EDGE, END, GRAPH_WORDS, HEADER, MAX_NODES, PATH_WORDS};
 
@@ -45,7 +46,7 @@ pub fn hexadecimal(name: &str, words: &[u32]) -> String {
     text
 }
 
-fn differ(input: &Input, call: &str, library: &dyn std::fmt::Debug, other: &dyn std::fmt::Debug) -> Difference {
+pub fn differ(input: &Input, call: &str, library: &dyn std::fmt::Debug, other: &dyn std::fmt::Debug) -> Difference {
     format!(
         "DIFFERENCE in {call}\n  library     {library:?}\n  independent {other:?}\n{}{}",
         hexadecimal("program", &input.program),
@@ -102,7 +103,15 @@ impl Compare {
         if same { Ok(()) } else { Err(differ(input, &format!("action part {k}"), &ours, &theirs)) }
     }
 
+    /// Step, and from the same state the rack's step.
     pub fn step(&mut self, input: &Input, k: usize, state: &[i32]) -> Result<(), Difference> {
+        let exact = self.tried(input, &STEP, k, state)?;
+        self.counts.note(step_name(exact.answer.answer, exact.answer.refusal));
+        self.rack(input, k, state, &exact)
+    }
+
+    /// One of the two steps, uncounted.
+    pub fn tried(&mut self, input: &Input, call: &Call, k: usize, state: &[i32]) -> Result<Tried, Difference> {
         for list in &mut self.states {
             list.clear();
             list.extend([0x5A5A_5A5A; 4]);
@@ -110,15 +119,14 @@ impl Compare {
             list.extend([0x5A5A_5A5A; 4]);
         }
         let lent = 4..4 + state.len();
-        let ours = library::step(&input.program, k, &mut self.states[0][lent.clone()]);
-        let theirs = other::step(&input.program, k, &mut self.states[1][lent]);
+        let ours = (call.library)(&input.program, k, &mut self.states[0][lent.clone()]);
+        let theirs = (call.other)(&input.program, k, &mut self.states[1][lent.clone()]);
         self.calls += 1;
-        self.counts.note(step_name(theirs.answer, theirs.refusal));
         if ours != theirs || self.states[0] != self.states[1] {
-            let name = format!("step {k} from {state:?}");
+            let name = format!("{} {k} from {state:?}", call.name);
             return Err(differ(input, &name, &(ours, &self.states[0]), &(theirs, &self.states[1])));
         }
-        Ok(())
+        Ok(Tried { answer: ours, left: self.states[0][lent].to_vec() })
     }
 
     /// The answer's number.

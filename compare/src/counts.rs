@@ -12,6 +12,13 @@ pub const DUE: &[&str] = &[
     "part empty", "part not empty",
     "step moved", "step not enabled", "step runs off", "step refusal 2", "step refusal 3", "step refusal 4",
     "step refusal 8", "step refusal 9", "step refusal 10",
+    "rack moved", "rack not enabled", "rack refusal 2", "rack refusal 3", "rack refusal 4",
+    "rack refusal 8", "rack refusal 9", "rack refusal 10",
+    "rack, the same as Step", "rack moved where Step runs off", "rack, a product past sixteen bits", "rack, a sum past sixteen bits",
+    "rack, a constant past sixteen bits", "rack, a value off its range stored", "rack, a value wrapped back on its range",
+    "rack, a guard past sixteen bits",
+    "runs, the rack as exact to the end", "runs that run off, the rack goes on elsewhere", "runs, the rack refused on its way",
+    "safe, rack's runs", "safe, rack's moves", "safe, rack's moves past sixteen bits", "safe, rack's runs from all start states",
     "ask accepted", "ask not accepted", "ask refusal 2", "ask refusal 3", "ask refusal 4", "ask refusal 5",
     "ask refusal 6", "ask refusal 8",
     "judge safe", "judge forbid", "judge run-off low", "judge run-off high",
@@ -58,7 +65,7 @@ impl Counts {
     pub fn print(&self, least: u64) -> Vec<&'static str> {
         for pair in DUE.chunks(2) {
             for name in pair {
-                print!("  {name:<44}{:>9}", self.of(name));
+                print!("  {name:<46}{:>9}", self.of(name));
             }
             println!();
         }
@@ -86,6 +93,19 @@ pub fn step_name(answer: u32, refusal: u32) -> &'static str {
         (_, 8) => "step refusal 8",
         (_, 9) => "step refusal 9",
         _ => "step refusal 10",
+    }
+}
+
+pub fn rack_name(answer: u32, refusal: u32) -> &'static str {
+    match (answer, refusal) {
+        (BNV_MOVED, _) => "rack moved",
+        (BNV_NOT_ENABLED, _) => "rack not enabled",
+        (_, 2) => "rack refusal 2",
+        (_, 3) => "rack refusal 3",
+        (_, 4) => "rack refusal 4",
+        (_, 8) => "rack refusal 8",
+        (_, 9) => "rack refusal 9",
+        _ => "rack refusal 10",
     }
 }
 

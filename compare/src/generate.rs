@@ -2,6 +2,7 @@
 
 use crate::dice::Dice;
 use crate::prover::prove;
+use crate::wide::wide;
 use independent::shows::*;
 use independent::words::*;
 
@@ -11,11 +12,11 @@ pub struct Input {
     pub lemmas: Vec<u32>,
 }
 
-fn at_least(v: u32, c: i32) -> RowText {
+pub fn at_least(v: u32, c: i32) -> RowText {
     row(-c, &[(v, 1)])
 }
 
-fn at_most(v: u32, c: i32) -> RowText {
+pub fn at_most(v: u32, c: i32) -> RowText {
     row(c, &[(v, -1)])
 }
 
@@ -440,7 +441,8 @@ fn shaped(dice: &Dice) -> (Text, Vec<Vec<u32>>) {
         (t, lemmas)
     };
     match dice.below(100) {
-        0..=43 => boxed(true),
+        0..=35 => boxed(true),
+        36..=43 => proved(wide(dice)),
         44..=54 => boxed(false),
         55..=65 => proved(rig(dice)),
         66..=75 => proved(odometer(dice)),

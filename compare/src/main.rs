@@ -10,10 +10,14 @@ mod keeping;
 mod open;
 mod other;
 mod prover;
+mod rack;
+mod racks;
+mod runs;
 mod sheets;
 mod states;
 mod sweep;
 mod touch;
+mod wide;
 
 use calls::{falsehood, Compare, Difference};
 use dice::Dice;
@@ -74,6 +78,7 @@ fn run(compare: &mut Compare, inputs: u64, seed: u64) -> Result<u64, Difference>
                 _ => (generate::damaged(&dice, &logic), STATES_DAMAGED, usize::MAX),
             };
             let judged = compare.all(&input, &dice).map_err(at)?;
+            compare.runs(&input, judged.as_ref(), &dice).map_err(at)?;
             if let Some(judged) = judged.filter(|j| j.verdict != BNV_JUDGE_REFUSED) {
                 walk(compare, &input, &judged, most, asked).map_err(at)?;
             }
@@ -117,13 +122,16 @@ fn main() -> ExitCode {
     let [inputs, seed] = numbers;
     println!("seed {seed}");
     // The sweeps have counts of their own, which do not count towards what must occur often.
-    let (made, swept) = std::thread::scope(|scope| {
+    let parts = std::thread::scope(|scope| {
         let sweeps = scope.spawn(|| timed(seed, sweep::sweep));
-        (timed(seed, |compare| run(compare, inputs, seed)), sweeps.join().expect("the sweeps panicked"))
+        let made = timed(seed, |compare| run(compare, inputs, seed));
+        // On this thread: by default the other sweeps take longer than the inputs.
+        let racks = timed(seed, racks::sweep);
+        [(made, "inputs"), (sweeps.join().expect("the sweeps panicked"), "sweeps"), (racks, "the rack's sweeps")]
     });
     let mut seldom = Vec::new();
     let least = if inputs < 100_000 { inputs / 1000 } else { 100 };
-    for (part, name) in [(made, "inputs"), (swept, "sweeps")] {
+    for (part, name) in parts {
         let Part { compare, inputs, seconds } = match part {
             Ok(part) => part,
             Err(fault) => {

@@ -19,8 +19,8 @@ macro_rules! stored {
 /// All shows of shows/.
 const SHOWS: &[(&str, &[u8])] = stored![
     "bakery", "bakery_kept", "blackout", "blackout_unshown", "bump", "chase", "chase_unshown", "counter", "cut_byte",
-    "cut_lemma", "cut_logic", "empty", "fade", "house", "house_kept", "incident", "incident_mended", "master", "rig8",
-    "rig8_kept"
+    "cut_lemma", "cut_logic", "difference", "empty", "fade", "house", "house_kept", "incident", "incident_mended", "master",
+    "rig8", "rig8_kept"
 ];
 
 /// The whole words of a file: logic, and lemmas behind the first END.

@@ -1,6 +1,6 @@
 //! Full sweeps over a full-sized program and a full-sized lemma list: every cut, every kind in every place,
 //! every single unnamed bit, every field at its ends and one past them; lengths of all lent lists. And request 1's clause:
-//! small logics, and every set of variables against every other. Request 2's are in sheets.rs.
+//! small logics, and every set of variables against every other. Request 2's are in sheets.rs, request 4's in racks.rs.
 
 use crate::calls::{falsehood, Compare, Difference};
 use crate::counts::DUE;
@@ -176,8 +176,8 @@ pub fn sweep(compare: &mut Compare) -> Result<u64, Difference> {
     sweep.kept_by_two()?;
     sweep.kept_by_variables()?;
     sweep.sheets()?;
-    let findings = DUE.iter().copied().filter(|name| name.starts_with("findings"));
-    match NAMES.into_iter().chain(findings).find(|name| sweep.compare.counts.of(name) == 0) {
+    let more = DUE.iter().copied().filter(|name| name.starts_with("findings") || name.starts_with("rack "));
+    match NAMES.into_iter().chain(more).find(|name| sweep.compare.counts.of(name) == 0) {
         Some(name) => Err(format!("the sweeps never had: {name}")),
         None => Ok(sweep.inputs),
     }
