@@ -31,16 +31,22 @@ fail() { # LINE
     exit 1
 }
 
-# Both examples print these lines of a show, and end with this status.
-says() { # SHOW STATUS LINES
-    local program status
+# Both programs of a list print these lines, and end with this status.
+print() { # LIST STATUS LINES ARGUMENT..
+    local -n programs=$1
+    local program status expected=$2
     printf '%s\n' "$3" >"$room/expected"
-    for program in "${shows[@]}"; do
+    shift 3
+    for program in "${programs[@]}"; do
         status=0
-        "$program" "$1" >"$room/out" 2>"$room/err" || status=$?
-        diff "$room/expected" "$room/out" && [ ! -s "$room/err" ] && [ "$status" -eq "$2" ] \
-            || fail "$program $1: not as expected, status $status"
+        "$program" "$@" >"$room/out" 2>"$room/err" || status=$?
+        diff "$room/expected" "$room/out" && [ ! -s "$room/err" ] && [ "$status" -eq "$expected" ] \
+            || fail "$program $*: not as expected, status $status"
     done
+}
+# A show judged.
+says() { # SHOW STATUS LINES
+    print shows "$2" "$3" "$1"
 }
 # Lists of words as a file.
 words() { # FILE WORD..
@@ -91,17 +97,9 @@ printf '%s\n' '#define main shown' '#include "show.c"' '#undef main' \
 cc -std=c11 $strict -I"$PWD/include" -I"$PWD/examples" "$room/refusals.c" "$library" -o "$room/refusals"
 "$room/refusals" | diff tests/refusals.txt -
 
-# Actions of a show pressed, exactly and as the rack does: both examples print these lines, and end with this status.
+# Actions of a show pressed, exactly and as the rack does.
 presses() { # STATUS LINES ARGUMENT..
-    local program status expected=$1
-    printf '%s\n' "$2" >"$room/expected"
-    shift 2
-    for program in "${racks[@]}"; do
-        status=0
-        "$program" "$@" >"$room/out" 2>"$room/err" || status=$?
-        diff "$room/expected" "$room/out" && [ ! -s "$room/err" ] && [ "$status" -eq "$expected" ] \
-            || fail "$program $*: not as expected, status $status"
-    done
+    print racks "$@"
 }
 # The incident: 5 take 10 is minus 5. Mended, the guard holds it. Products that wrap, and a sum that does not. A sum that wraps onto its range: 4 and 5 times
 # 8,191 is 73,719, less 65,536 it is 8,183.

@@ -1,4 +1,4 @@
-// The rack's step: what racks do that hold each variable in sixteen bits.
+// The rack's step: what a rack does, which holds each variable in sixteen bits.
 ghost use mathlib.Core.Path.{_≡_};
 ghost use Prim.Native.Nat.{_≤_};
 ghost use lib.ListN.{length};
