@@ -12,7 +12,7 @@ stdout has one line per vector:
     COUNTS v s p a f    variables, start rows, predicates, actions, forbidden combinations
     REFUSED r AT p      the refusal's number and the word index returned with it
     PART w w w          the words of the part in decimal; only PART when the part is empty
-A step's line is MOVED, NOT ENABLED, RUNS OFF v (of Step alone) or REFUSED r AT p, then LEFT and each state value at exit in decimal.
+A step's line is MOVED, NOT ENABLED with the first guard row that fails and its value, RUNS OFF v (of Step alone) or REFUSED r AT p, then LEFT and each state value at exit in decimal.
 """
 
 import os
@@ -371,7 +371,7 @@ group("SETS predicates")
 
 NO_PRED = [VAR(0, 9), INIT(0), PRED(0)]                               # SETS stands at 3
 ONE_PRED = [VAR(0, 9), INIT(0), PRED(1), ROW(0)]                      # SETS stands at 4
-FOURTEEN = [VAR(0, 9), INIT(0), PRED(14)] + [ROW(0)] * 14             # SETS stands at 17
+EIGHT_ROWS = [VAR(0, 9), INIT(0), PRED(14)] + [ROW(0)] * 14             # SETS stands at 17
 ALL = range(14)
 
 check("no predicate: the empty combination", NO_PRED + [SETS([], []), END()], "COUNTS 1 0 0 0 1")
@@ -390,15 +390,15 @@ check("one predicate: 0 true, 1 false", ONE_PRED + [SETS([1], [0]), END()], "REF
 check("equal combinations", ONE_PRED + [SETS([], [0]), SETS([], [0]), SETS([], []), SETS([], []), END()], "COUNTS 1 0 1 0 4")
 check("second combination: 1 true", ONE_PRED + [SETS([], [0]), SETS([], [1]), END()], "REFUSED 4 AT 5")
 
-check("14 predicates: 13 false", FOURTEEN + [SETS([13], []), END()], "COUNTS 1 0 14 0 1")
-check("14 predicates: 13 true", FOURTEEN + [SETS([], [13]), END()], "COUNTS 1 0 14 0 1")
-check("14 predicates: all false", FOURTEEN + [SETS(ALL, []), END()], "COUNTS 1 0 14 0 1")
-check("14 predicates: all true", FOURTEEN + [SETS([], ALL), END()], "COUNTS 1 0 14 0 1")
-check("14 predicates: even false, odd true", FOURTEEN + [SETS(ALL[0::2], ALL[1::2]), END()], "COUNTS 1 0 14 0 1")
-check("14 predicates: 0 in both", FOURTEEN + [SETS([0], [0]), END()], "REFUSED 4 AT 17")
-check("14 predicates: 13 in both", FOURTEEN + [SETS([13], [13]), END()], "REFUSED 4 AT 17")
-check("14 predicates: 7 in both among others", FOURTEEN + [SETS([0, 7], [1, 7]), END()], "REFUSED 4 AT 17")
-check("14 predicates: all in both", FOURTEEN + [SETS(ALL, ALL), END()], "REFUSED 4 AT 17")
+check("14 predicates: 13 false", EIGHT_ROWS + [SETS([13], []), END()], "COUNTS 1 0 14 0 1")
+check("14 predicates: 13 true", EIGHT_ROWS + [SETS([], [13]), END()], "COUNTS 1 0 14 0 1")
+check("14 predicates: all false", EIGHT_ROWS + [SETS(ALL, []), END()], "COUNTS 1 0 14 0 1")
+check("14 predicates: all true", EIGHT_ROWS + [SETS([], ALL), END()], "COUNTS 1 0 14 0 1")
+check("14 predicates: even false, odd true", EIGHT_ROWS + [SETS(ALL[0::2], ALL[1::2]), END()], "COUNTS 1 0 14 0 1")
+check("14 predicates: 0 in both", EIGHT_ROWS + [SETS([0], [0]), END()], "REFUSED 4 AT 17")
+check("14 predicates: 13 in both", EIGHT_ROWS + [SETS([13], [13]), END()], "REFUSED 4 AT 17")
+check("14 predicates: 7 in both among others", EIGHT_ROWS + [SETS([0, 7], [1, 7]), END()], "REFUSED 4 AT 17")
+check("14 predicates: all in both", EIGHT_ROWS + [SETS(ALL, ALL), END()], "REFUSED 4 AT 17")
 check("13 predicates: 13 false", [VAR(0, 9), INIT(0), PRED(13)] + [ROW(0)] * 13 + [SETS([13], []), END()], "REFUSED 4 AT 16")
 check("13 predicates: 13 true", [VAR(0, 9), INIT(0), PRED(13)] + [ROW(0)] * 13 + [SETS([], [13]), END()], "REFUSED 4 AT 16")
 
@@ -797,8 +797,8 @@ part("4: unknown predicate and no such action", action_program(ACTION(0, 0), SET
 # "An action is enabled when all its guard rows hold"; only moved writes.
 group("step: Fade")
 
-step("Fade 0 at 0", FADE, 0, [0], "NOT ENABLED LEFT 0")
-step("Fade 0 at 4", FADE, 0, [4], "NOT ENABLED LEFT 4")
+step("Fade 0 at 0", FADE, 0, [0], "NOT ENABLED 0 -5 LEFT 0")
+step("Fade 0 at 4", FADE, 0, [4], "NOT ENABLED 0 -1 LEFT 4")
 step("Fade 0 at 5", FADE, 0, [5], "MOVED LEFT 0")
 step("Fade 0 at 995", FADE, 0, [995], "MOVED LEFT 990")
 step("Fade 0 at 996", FADE, 0, [996], "MOVED LEFT 991")
@@ -807,8 +807,8 @@ step("Fade 1 at 0", FADE, 1, [0], "MOVED LEFT 5")
 step("Fade 1 at 4", FADE, 1, [4], "MOVED LEFT 9")
 step("Fade 1 at 5", FADE, 1, [5], "MOVED LEFT 10")
 step("Fade 1 at 995", FADE, 1, [995], "MOVED LEFT 1000")
-step("Fade 1 at 996", FADE, 1, [996], "NOT ENABLED LEFT 996")
-step("Fade 1 at 1000", FADE, 1, [1000], "NOT ENABLED LEFT 1000")
+step("Fade 1 at 996", FADE, 1, [996], "NOT ENABLED 0 -1 LEFT 996")
+step("Fade 1 at 1000", FADE, 1, [1000], "NOT ENABLED 0 -5 LEFT 1000")
 
 # ---------------------------------------------------------------------------------------------------------------------
 # Level and house. Step asks neither the start rows nor the forbidden combinations: a state only has to lie in its ranges.
@@ -818,11 +818,11 @@ step("House 0 at 0 0", HOUSE, 0, [0, 0], "MOVED LEFT 0 1")
 step("House 1 at 0 0", HOUSE, 1, [0, 0], "MOVED LEFT 500 0")
 step("House 2 at 0 0", HOUSE, 2, [0, 0], "MOVED LEFT 0 0")
 step("House 3 at 0 0", HOUSE, 3, [0, 0], "MOVED LEFT 0 0")
-step("House 1 at 0 1", HOUSE, 1, [0, 1], "NOT ENABLED LEFT 0 1")
+step("House 1 at 0 1", HOUSE, 1, [0, 1], "NOT ENABLED 0 -1 LEFT 0 1")
 step("House 3 at 0 1", HOUSE, 3, [0, 1], "MOVED LEFT 0 0")
-step("House 0 at 500 0", HOUSE, 0, [500, 0], "NOT ENABLED LEFT 500 0")
-step("House 0 at 1000 1, forbidden", HOUSE, 0, [1000, 1], "NOT ENABLED LEFT 1000 1")
-step("House 1 at 1000 1, forbidden", HOUSE, 1, [1000, 1], "NOT ENABLED LEFT 1000 1")
+step("House 0 at 500 0", HOUSE, 0, [500, 0], "NOT ENABLED 0 -500 LEFT 500 0")
+step("House 0 at 1000 1, forbidden", HOUSE, 0, [1000, 1], "NOT ENABLED 0 -1000 LEFT 1000 1")
+step("House 1 at 1000 1, forbidden", HOUSE, 1, [1000, 1], "NOT ENABLED 0 -1 LEFT 1000 1")
 step("House 2 at 1000 1, forbidden", HOUSE, 2, [1000, 1], "MOVED LEFT 0 1")
 step("House 3 at 1000 1, forbidden", HOUSE, 3, [1000, 1], "MOVED LEFT 1000 0")
 
@@ -877,9 +877,9 @@ BOTH = [
     VAR(0, 9), VAR(0, 9), INIT(0), PRED(0), ACTION(2, 1), ROW(-3), TERM(0, 1), ROW(5), TERM(1, -1), SET(0), ROW(0), TERM(1, 1), END(),
 ]
 step("both guard rows hold", BOTH, 0, [3, 5], "MOVED LEFT 5 5")
-step("only the second guard row holds", BOTH, 0, [2, 5], "NOT ENABLED LEFT 2 5")
-step("only the first guard row holds", BOTH, 0, [3, 6], "NOT ENABLED LEFT 3 6")
-step("not enabled before runs off", action_program(ACTION(1, 1), ROW(-1), SET(0), ROW(10)), 0, [7], "NOT ENABLED LEFT 7")
+step("only the second guard row holds", BOTH, 0, [2, 5], "NOT ENABLED 0 -1 LEFT 2 5")
+step("only the first guard row holds", BOTH, 0, [3, 6], "NOT ENABLED 1 -1 LEFT 3 6")
+step("not enabled before runs off", action_program(ACTION(1, 1), ROW(-1), SET(0), ROW(10)), 0, [7], "NOT ENABLED 0 -1 LEFT 7")
 # 512 times 64 is 32,768. The values are whole numbers of any size.
 step("a guard's value past 16 bits", [VAR(0, 1000), INIT(0), PRED(0), ACTION(1, 0), ROW(0), TERM(0, 512), END()], 0, [64],
      "MOVED LEFT 64")
@@ -954,14 +954,14 @@ INCIDENT = [VAR(0, 1000), INIT(0), PRED(0), ACTION(0, 1), SET(0), ROW(-10), TERM
 rack("incident: 5 take 10", INCIDENT, 0, [5], "MOVED LEFT -5")
 rack("incident: the value that it wrote", INCIDENT, 0, [-5], "REFUSED 10 AT 0 LEFT -5")
 rack("incident: 10 take 10", INCIDENT, 0, [10], "MOVED LEFT 0")
-rack("Fade 0 at 4", FADE, 0, [4], "NOT ENABLED LEFT 4")
+rack("Fade 0 at 4", FADE, 0, [4], "NOT ENABLED 0 -1 LEFT 4")
 rack("Fade 0 at 5", FADE, 0, [5], "MOVED LEFT 0")
 rack("Fade 1 at 995", FADE, 1, [995], "MOVED LEFT 1000")
-rack("Fade 1 at 996", FADE, 1, [996], "NOT ENABLED LEFT 996")
+rack("Fade 1 at 996", FADE, 1, [996], "NOT ENABLED 0 -1 LEFT 996")
 rack("House 0 at 0 0", HOUSE, 0, [0, 0], "MOVED LEFT 0 1")
-rack("House 1 at 1000 1, forbidden", HOUSE, 1, [1000, 1], "NOT ENABLED LEFT 1000 1")
+rack("House 1 at 1000 1, forbidden", HOUSE, 1, [1000, 1], "NOT ENABLED 0 -1 LEFT 1000 1")
 rack("no guard row, no assignment", action_program(ACTION(0, 0)), 0, [7], "MOVED LEFT 7")
-rack("not enabled where the exact step would run off", action_program(ACTION(1, 1), ROW(-1), SET(0), ROW(10)), 0, [7], "NOT ENABLED LEFT 7")
+rack("not enabled where the exact step would run off", action_program(ACTION(1, 1), ROW(-1), SET(0), ROW(10)), 0, [7], "NOT ENABLED 0 -1 LEFT 7")
 rack("past the low end", NARROW, 0, [-3, 0], "MOVED LEFT -4 0")
 rack("past the high end", NARROW, 1, [3, 1], "MOVED LEFT 4 1")
 rack("the first on its range, the second past it: both are written", NARROW, 2, [2, 3], "MOVED LEFT 3 4")
@@ -1007,7 +1007,7 @@ stored("eight variables, told apart: 1 + 20 + 300 + 4,000 - 5 - 60 - 700 - 9", 0
        [1, 2, 3, 4, 5, 6, 7, 9], 3547)
 # 512 times 64 is 32,768, which sixteen bits would read as -32,768; -65,536 is 0 in sixteen bits.
 rack("a guard's value past 16 bits", [VAR(0, 1000), INIT(0), PRED(0), ACTION(1, 0), ROW(0), TERM(0, 512), END()], 0, [64], "MOVED LEFT 64")
-rack("a guard's constant is not cut", [VAR(0, 1000), INIT(0), PRED(0), ACTION(1, 0), ROW(-65536), END()], 0, [64], "NOT ENABLED LEFT 64")
+rack("a guard's constant is not cut", [VAR(0, 1000), INIT(0), PRED(0), ACTION(1, 0), ROW(-65536), END()], 0, [64], "NOT ENABLED 0 -65536 LEFT 64")
 
 # ---------------------------------------------------------------------------------------------------------------------
 # "Answers: as for step, in the same order."
@@ -1023,6 +1023,36 @@ rack("9 before 10", FADE, 0, [-1, 1001], "REFUSED 9 AT 2 LEFT -1 1001")
 rack("10: Fade 1 at 1001, where its guard fails", FADE, 1, [1001], "REFUSED 10 AT 0 LEFT 1001")
 rack("10: 65,541, whose low 16 bits are 5", FADE, 0, [65541], "REFUSED 10 AT 0 LEFT 65541")
 rack("10: House, both", HOUSE, 3, [1001, -1], "REFUSED 10 AT 0 LEFT 1001 -1")
+
+# ---------------------------------------------------------------------------------------------------------------------
+# Request 5: "The answer "not enabled", of step and of the rack's step, now carries the number of the first guard row that fails and its value, which
+# is below 0." Rows count from 0 within the action's guards.
+group("how near it was, of both steps")
+
+# x and y, 0..100. If x is at least 10, twice y at least 7, 5 at least 0, and x and y together at most 50, x is 0.
+FOUR_ROWS = [VAR(0, 100), VAR(0, 100), INIT(0), PRED(0), ACTION(0, 1), SET(0), ROW(1),
+             ACTION(4, 1), ROW(-10), TERM(0, 1), ROW(-7), TERM(1, 2), ROW(5), ROW(50), TERM(0, -1), TERM(1, -1), SET(0), ROW(0), END()]
+# Eight rows, the most: seven are x, the last is x - 8.
+EIGHT_ROWS = [VAR(-9, 9), INIT(0), PRED(0), ACTION(8, 0)] + [ROW(0), TERM(0, 1)] * 7 + [ROW(-8), TERM(0, 1), END()]
+# The incident with the guard that it lacked: 10 off the level, if it is at least 10.
+GUARDED = [VAR(0, 1000), INIT(0), PRED(0), ACTION(1, 1), ROW(-10), TERM(0, 1), SET(0), ROW(-10), TERM(0, 1), END()]
+# -1,000,000 and eight times 1,000 times -8,192, which is -65,536,000; 65,536,000 is 1,000 times 65,536, so sixteen bits would keep -1,000,000 alone.
+LEAST = [VAR(-8192, 8191)] * 8 + [INIT(0), PRED(0), ACTION(1, 0), ROW(-1000000)] + [TERM(v, 1000) for v in range(8)] + [END()]
+for call in (step, rack):
+    call("rows worth 0, 1, 5 and 36", FOUR_ROWS, 1, [10, 4], "MOVED LEFT 0 4")
+    call("row 0 alone, by 1", FOUR_ROWS, 1, [9, 4], "NOT ENABLED 0 -1 LEFT 9 4")
+    call("row 0 by 10, row 1 by 7", FOUR_ROWS, 1, [0, 0], "NOT ENABLED 0 -10 LEFT 0 0")
+    call("row 1 alone, by 1", FOUR_ROWS, 1, [10, 3], "NOT ENABLED 1 -1 LEFT 10 3")
+    call("row 1 by 7, row 3 by 50", FOUR_ROWS, 1, [100, 0], "NOT ENABLED 1 -7 LEFT 100 0")
+    call("row 3 alone, by 1", FOUR_ROWS, 1, [10, 41], "NOT ENABLED 3 -1 LEFT 10 41")
+    call("row 3 alone, by 150", FOUR_ROWS, 1, [100, 100], "NOT ENABLED 3 -150 LEFT 100 100")
+    call("row 0 by 1, row 3 by 59", FOUR_ROWS, 1, [9, 100], "NOT ENABLED 0 -1 LEFT 9 100")
+    call("the last of eight rows, by 1", EIGHT_ROWS, 0, [7], "NOT ENABLED 7 -1 LEFT 7")
+    call("the last of eight rows, the others worth 0", EIGHT_ROWS, 0, [0], "NOT ENABLED 7 -8 LEFT 0")
+    call("all of eight rows", EIGHT_ROWS, 0, [-9], "NOT ENABLED 0 -9 LEFT -9")
+    call("none of eight rows", EIGHT_ROWS, 0, [8], "MOVED LEFT 8")
+    call("the incident, guarded", GUARDED, 0, [5], "NOT ENABLED 0 -5 LEFT 5")
+    call("the least value of a guard", LEAST, 0, [-8192] * 8, "NOT ENABLED 0 -66536000 LEFT" + " -8192" * 8)
 
 
 # ---------------------------------------------------------------------------------------------------------------------
@@ -1049,8 +1079,8 @@ def slips():
     names = [(call, name) for _, name, call, _, _, _, _ in VECTORS]
     assert len(names) == len(set(names)), [n for n in names if names.count(n) > 1]
     form = [re.compile(r"COUNTS( \d+){5}|REFUSED [234] AT \d+"), re.compile(r"PART( \d+)*"),
-            re.compile(r"(MOVED|NOT ENABLED|RUNS OFF \d|REFUSED ([23489]|10) AT \d+) LEFT( -?\d+)*"),
-            re.compile(r"(MOVED|NOT ENABLED|REFUSED ([23489]|10) AT \d+) LEFT( -?\d+)*")]
+            re.compile(r"(MOVED|NOT ENABLED \d+ -\d+|RUNS OFF \d|REFUSED ([23489]|10) AT \d+) LEFT( -?\d+)*"),
+            re.compile(r"(MOVED|NOT ENABLED \d+ -\d+|REFUSED ([23489]|10) AT \d+) LEFT( -?\d+)*")]
     for _, name, call, _, _, _, answer in VECTORS:
         assert form[call].fullmatch(answer), name
     assert len(stdin_bytes()) < STDIN_LIMIT

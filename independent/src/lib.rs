@@ -1,6 +1,7 @@
 //! An independent implementation of document 01, "Show logic, lemmas and the abstract state graph",
-//! with requests 1, 2 and 4 of document 02, "Untouched predicates keep their literal", "Every finding on
-//! the sheet" and "The rack's sixteen bits". Request 3, "Read a row once", changes no answer.
+//! with requests 1, 2, 4 and 5 of document 02, "Untouched predicates keep their literal", "Every finding on
+//! the sheet", "The rack's sixteen bits" and "How near was it". Request 3, "Read a row once", changes no
+//! answer.
 
 pub mod bytes;
 pub mod judge;
@@ -35,7 +36,9 @@ pub struct Counts {
 #[derive(Clone, Copy, Debug, PartialEq, Eq)]
 pub enum Stepped {
     Moved,
-    NotEnabled,
+    /// Request 5: it "now carries the number of the first guard row that fails and its value, which is below
+    /// 0".
+    NotEnabled { row: usize, value: i64 },
     /// The lowest variable whose exact new value is off its range.
     RunsOff(usize),
     Refused(Refusal),
@@ -111,8 +114,8 @@ fn ready(words: &[u32], k: usize, state: &[i32]) -> Result<program::Program, Ref
 fn exact_try(program: &program::Program, k: usize, state: &mut [i32]) -> Stepped {
     let action = &program.actions[k];
     // "An action is enabled when all its guard rows hold; with no guard it always is."
-    if !action.guards.iter().all(|row| row.holds(state)) {
-        return Stepped::NotEnabled;
+    if let Some((row, value)) = action.failing_guard(state) {
+        return Stepped::NotEnabled { row, value };
     }
     // "Its assignments use the old values and happen at once; other variables keep theirs."
     let values: Vec<(usize, i64)> =

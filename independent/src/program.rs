@@ -13,18 +13,15 @@ pub struct Row {
 }
 
 impl Row {
-    /// "its value (coefficients times variables, plus the constant)"
+    /// "It holds at a state when its value (coefficients times variables, plus the constant) is at least 0."
+    /// Request 5: "the row test should give the row's value at the state, and yes is then a value of at least
+    /// 0."
     pub fn value(&self, state: &[i32]) -> i64 {
         let mut total = self.constant;
         for (variable, value) in state.iter().enumerate() {
             total += self.coefficients[variable] * i64::from(*value);
         }
         total
-    }
-
-    /// "It holds at a state when its value is at least 0."
-    pub fn holds(&self, state: &[i32]) -> bool {
-        self.value(state) >= 0
     }
 }
 
@@ -85,6 +82,13 @@ pub struct Action {
 impl Action {
     pub fn assigned(&self, variable: usize) -> Option<&Row> {
         self.assignments.iter().find(|a| a.variable == variable).map(|a| &a.row)
+    }
+
+    /// "An action is enabled when all its guard rows hold; with no guard it always is": then there is none.
+    /// Request 5: "the number of the first guard row that fails and its value, which is below 0". "Guard rows
+    /// count from 0 within the action's guards." Each is worked out once, and none after the one that fails.
+    pub fn failing_guard(&self, state: &[i32]) -> Option<(usize, i64)> {
+        self.guards.iter().map(|row| row.value(state)).enumerate().find(|(_, value)| *value < 0)
     }
 }
 

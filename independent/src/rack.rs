@@ -10,7 +10,9 @@ use crate::{exact_try, ready, Refusal, Stepped};
 #[derive(Clone, Copy, Debug, PartialEq, Eq)]
 pub enum Racked {
     Moved,
-    NotEnabled,
+    /// Request 5: 'The answer "not enabled", of step and of the rack's step, now carries the number of the
+    /// first guard row that fails and its value, which is below 0.'
+    NotEnabled { row: usize, value: i64 },
     Refused(Refusal),
 }
 
@@ -34,11 +36,11 @@ fn rack_value(row: &Row, state: &[i32]) -> i32 {
     i32::from(total as i16)
 }
 
-/// Tries an action in the rack; whether it is enabled. "Guards are worked out exactly." There is no test of
-/// the new values: it "writes the wrapped values even where the exact step runs off".
-fn rack_try(action: &Action, state: &mut [i32]) -> bool {
-    if !action.guards.iter().all(|row| row.holds(state)) {
-        return false;
+/// Tries an action in the rack; only moved writes. "Guards are worked out exactly." There is no test of the
+/// new values: it "writes the wrapped values even where the exact step runs off".
+fn rack_try(action: &Action, state: &mut [i32]) -> Racked {
+    if let Some((row, value)) = action.failing_guard(state) {
+        return Racked::NotEnabled { row, value };
     }
     // "Its assignments use the old values and happen at once; other variables keep theirs."
     let values: Vec<(usize, i32)> =
@@ -46,15 +48,14 @@ fn rack_try(action: &Action, state: &mut [i32]) -> bool {
     for (variable, value) in values {
         state[variable] = value;
     }
-    true
+    Racked::Moved
 }
 
 /// "We want a second step that does what the rack does". Refuses "as for step, in the same order": 2 to 4, 8,
 /// 9, 10, each of which leaves the state. A value that it stored off the range is refused 10 by a later call.
 pub fn rack_step(words: &[u32], k: usize, state: &mut [i32]) -> Racked {
     match ready(words, k, state) {
-        Ok(program) if rack_try(&program.actions[k], state) => Racked::Moved,
-        Ok(_) => Racked::NotEnabled,
+        Ok(program) => rack_try(&program.actions[k], state),
         Err(refusal) => Racked::Refused(refusal),
     }
 }

@@ -2,7 +2,7 @@
 //! records.
 
 use independent::lemma::{Goal, Lemma, Source};
-use independent::program::{Literals, Program};
+use independent::program::{Literals, Program, Row};
 use independent::records::{answer, decode, digest, lent_graph, lent_path, JUDGE};
 use independent::shows::*;
 use independent::words::*;
@@ -189,13 +189,14 @@ fn action_parts() {
 #[test]
 fn steps() {
     let mut state = [4];
-    assert_eq!(step(&FADE, 0, &mut state), Stepped::NotEnabled);
+    assert_eq!(step(&FADE, 0, &mut state), Stepped::NotEnabled { row: 0, value: -1 }); // 4 - 5
     assert_eq!(state, [4]);
     state = [5];
     assert_eq!(step(&FADE, 0, &mut state), Stepped::Moved);
     assert_eq!(state, [0]);
     state = [996];
-    assert_eq!(step(&FADE, 1, &mut state), Stepped::NotEnabled);
+    assert_eq!(step(&FADE, 1, &mut state), Stepped::NotEnabled { row: 0, value: -1 }); // 995 - 996
+    assert_eq!(state, [996]);
     state = [1001];
     assert_eq!(step(&FADE, 1, &mut state), Stepped::Refused(refusal(10, 0)));
     assert_eq!(step(&FADE, 2, &mut state), Stepped::Refused(refusal(8, 2)));
@@ -504,8 +505,13 @@ fn states(program: &Program) -> Vec<Vec<i32>> {
     all
 }
 
+/// "yes is then a value of at least 0"
+fn holds(row: &Row, state: &[i32]) -> bool {
+    row.value(state) >= 0
+}
+
 fn meets(program: &Program, l: &Literals, state: &[i32]) -> bool {
-    literals_of(l).iter().all(|(i, yes)| program.predicates[*i].holds(state) == *yes)
+    literals_of(l).iter().all(|(i, yes)| holds(&program.predicates[*i], state) == *yes)
 }
 
 /// Accepted lemmas are true in all states; safe programs neither run off nor reach a forbidden state.
@@ -521,7 +527,7 @@ fn accepted_is_true_and_safe_is_safe() {
             let truth = all.iter().all(|state| {
                 let (before, after): (bool, Vec<i64>) = match l.source {
                     Source::Start => {
-                        (program.start.iter().all(|r| r.holds(state)), state.iter().map(|v| i64::from(*v)).collect())
+                        (program.start.iter().all(|r| holds(r, state)), state.iter().map(|v| i64::from(*v)).collect())
                     }
                     Source::Action(a) => {
                         let action = &program.actions[a];
@@ -529,7 +535,7 @@ fn accepted_is_true_and_safe_is_safe() {
                             Some(r) => r.value(state),
                             None => i64::from(state[v]),
                         };
-                        (action.guards.iter().all(|r| r.holds(state)), (0..state.len()).map(value).collect())
+                        (action.guards.iter().all(|r| holds(r, state)), (0..state.len()).map(value).collect())
                     }
                 };
                 if !before || !meets(&program, &l.premises, state) {
@@ -538,8 +544,8 @@ fn accepted_is_true_and_safe_is_safe() {
                 let after32: Vec<i32> = after.iter().map(|v| *v as i32).collect();
                 match l.goal {
                     Goal::Cannot => false,
-                    Goal::Holds(i) => program.predicates[i].holds(&after32),
-                    Goal::Fails(i) => !program.predicates[i].holds(&after32),
+                    Goal::Holds(i) => holds(&program.predicates[i], &after32),
+                    Goal::Fails(i) => !holds(&program.predicates[i], &after32),
                     Goal::NotBelow(v) => after[v] >= program.ranges[v].low,
                     Goal::NotAbove(v) => after[v] <= program.ranges[v].high,
                 }
@@ -559,7 +565,7 @@ fn accepted_is_true_and_safe_is_safe() {
         safe += 1;
         let mut reached: std::collections::HashSet<Vec<i32>> = std::collections::HashSet::new();
         let mut todo: Vec<Vec<i32>> =
-            all.into_iter().filter(|s| program.start.iter().all(|r| r.holds(s))).collect();
+            all.into_iter().filter(|s| program.start.iter().all(|r| holds(r, s))).collect();
         while let Some(state) = todo.pop() {
             if !reached.insert(state.clone()) {
                 continue;
@@ -569,7 +575,7 @@ fn accepted_is_true_and_safe_is_safe() {
                 let mut next = state.clone();
                 match step(&p, a, &mut next) {
                     Stepped::Moved => todo.push(next),
-                    Stepped::NotEnabled => {}
+                    Stepped::NotEnabled { .. } => {}
                     other => panic!("seed {seed} {state:?} action {a}: {other:?}"),
                 }
             }
@@ -596,7 +602,8 @@ fn untouched_predicates_stay() {
                 continue;
             }
             for i in (0..program.predicates.len()).filter(|i| keeps(&program, Source::Action(a), *i)) {
-                assert_eq!(program.predicates[i].holds(state), program.predicates[i].holds(&next), "seed {seed}");
+                let predicate = &program.predicates[i];
+                assert_eq!(holds(predicate, state), holds(predicate, &next), "seed {seed}");
                 moves += 1;
             }
         }
@@ -655,7 +662,7 @@ fn bakery_walked_by_states() {
     let (_, graph, _) = judged(&p, &l);
     let record = HEADER + program.actions.len();
     assert!((0..9).all(|n| node_literals(graph[n * record]).len() == program.predicates.len()));
-    let literals = |state: &[i32]| program.predicates.iter().map(|r| r.holds(state)).collect::<Vec<_>>();
+    let literals = |state: &[i32]| program.predicates.iter().map(|r| holds(r, state)).collect::<Vec<_>>();
     let (mut reached, mut todo) = (std::collections::HashSet::new(), vec![vec![0; 4]]);
     let (mut nodes, mut edges) = (std::collections::HashSet::new(), std::collections::HashSet::new());
     while let Some(state) = todo.pop() {

@@ -26,6 +26,14 @@ fn enabled(action: &ActionText, state: &[i32]) -> bool {
     action.guards.iter().all(|row| exact_value(row, state) >= 0)
 }
 
+/// What both steps answer where the action is not enabled: "the number of the first guard row that fails and
+/// its value".
+fn not_enabled(action: &ActionText, state: &[i32]) -> (Stepped, Racked) {
+    let row = action.guards.iter().position(|row| exact_value(row, state) < 0).unwrap();
+    let value = exact_value(&action.guards[row], state) as i64;
+    (Stepped::NotEnabled { row, value }, Racked::NotEnabled { row, value })
+}
+
 /// The exact value of each variable after an enabled action.
 fn afterwards(action: &ActionText, state: &[i32]) -> Vec<i128> {
     let mut values: Vec<i128> = state.iter().map(|v| i128::from(*v)).collect();
@@ -48,7 +56,8 @@ fn expected(t: &Text, k: usize, state: &[i32]) -> Both {
     let action = &t.actions[k];
     let old = state.to_vec();
     if !enabled(action, state) {
-        return (Stepped::NotEnabled, old.clone(), Racked::NotEnabled, old);
+        let (stepped, racked) = not_enabled(action, state);
+        return (stepped, old.clone(), racked, old);
     }
     let values = afterwards(action, state);
     // Values that are not assigned lie on ranges of fourteen bits, so that they read back as they are.
@@ -128,36 +137,40 @@ fn the_run_of_the_incident() {
 // ---------------------------------------------------------------------------------------------
 // Guards
 
-/// "level at least 5" at 4, "at most 995" at 996.
+/// "level at least 5" at 4, where it is worth 4 - 5, and "at most 995" at 996, worth 995 - 996.
 #[test]
 fn a_guard_that_fails() {
-    assert_eq!(racked(&FADE, 0, &[4]), (Racked::NotEnabled, vec![4]));
+    let near = |row: usize| Racked::NotEnabled { row, value: -1 };
+    assert_eq!(racked(&FADE, 0, &[4]), (near(0), vec![4]));
     assert_eq!(racked(&FADE, 0, &[5]), (Racked::Moved, vec![0]));
-    assert_eq!(racked(&FADE, 1, &[996]), (Racked::NotEnabled, vec![996]));
+    assert_eq!(racked(&FADE, 1, &[996]), (near(0), vec![996]));
     assert_eq!(racked(&FADE, 1, &[995]), (Racked::Moved, vec![1000]));
     // One of two fails, whichever.
-    for guards in [[never(), row(0, &[])], [row(0, &[]), never()]] {
+    for (guards, failing) in [([never(), row(0, &[])], 0), ([row(0, &[]), never()], 1)] {
         let t = logic(&[(0, 9)], &[act(&guards, &[(0, row(7, &[]))])]);
-        assert_eq!(racked(&t.words(), 0, &[3]), (Racked::NotEnabled, vec![3]));
+        assert_eq!(racked(&t.words(), 0, &[3]), (near(failing), vec![3]));
     }
 }
 
 /// "Guards are worked out exactly." In sixteen bits each of these would be the other way round.
 #[test]
 fn guards_do_not_wrap() {
-    for (guard, level, holds) in [
-        (row(40_000, &[]), 0, true),
-        (row(-40_000, &[]), 0, false),
-        (row(0, &[(0, 1000)]), 40, true),
-        (row(0, &[(0, -1000)]), 40, false),
-        (row(-1_000_000, &[(0, 1000)]), 8191, true), // 7,191,000 is 109 * 65,536 + 47,576
-        (row(1_000_000, &[(0, -1000)]), 8191, false),
-        (row(1_000_000, &[(0, 1000)]), -1048, false), // -48,000 would be 17,536
-        (row(-65_536, &[]), 0, false),                // would be 0
+    for (guard, level, value) in [
+        (row(40_000, &[]), 0, 40_000),
+        (row(-40_000, &[]), 0, -40_000),
+        (row(0, &[(0, 1000)]), 40, 40_000),
+        (row(0, &[(0, -1000)]), 40, -40_000),
+        (row(-1_000_000, &[(0, 1000)]), 8191, 7_191_000), // is 109 * 65,536 + 47,576
+        (row(1_000_000, &[(0, -1000)]), 8191, -7_191_000),
+        (row(1_000_000, &[(0, 1000)]), -1048, -48_000), // would be 17,536
+        (row(-65_536, &[]), 0, -65_536),                // would be 0
     ] {
-        assert_ne!(wrapped(exact_value(&guard, &[level])) >= 0, holds);
+        let holds = value >= 0;
+        assert_eq!(exact_value(&guard, &[level]), i128::from(value));
+        assert_ne!(wrapped(i128::from(value)) >= 0, holds);
         let t = logic(&[(-8192, 8191)], &[act(&[guard], &[(0, row(1, &[]))])]);
-        let after = if holds { (Racked::Moved, vec![1]) } else { (Racked::NotEnabled, vec![level]) };
+        let near = Racked::NotEnabled { row: 0, value };
+        let after = if holds { (Racked::Moved, vec![1]) } else { (near, vec![level]) };
         assert_eq!(racked(&t.words(), 0, &[level]), after, "{t:?} at {level}");
     }
 }
@@ -402,7 +415,8 @@ fn refusal_10() {
     refuses(&p, 0, &[5, -6, 6], 10, 1);
     refuses(&p, 0, &[5, -5, 6], 10, 2);
     refuses(&p, 0, &[-1, 0, 7], 10, 0);
-    assert_eq!(racked(&p, 0, &[5, -5, 7]), (Racked::NotEnabled, vec![5, -5, 7]));
+    let near = Racked::NotEnabled { row: 0, value: -1 }; // `never` is worth -1
+    assert_eq!(racked(&p, 0, &[5, -5, 7]), (near, vec![5, -5, 7]));
     // The state need not meet the start rows.
     let mut started = single(row(1, &[(0, 1)]));
     started.init = vec![never()];
@@ -501,9 +515,9 @@ fn sweep_step(t: &Text, p: &[u32], k: usize, state: &[i32], seen: &mut Seen) {
             seen.moved += 1;
             assert_eq!((racked, &rack), (Racked::Moved, &exact));
         }
-        Stepped::NotEnabled => {
+        Stepped::NotEnabled { row, value } => {
             seen.not_enabled += 1;
-            assert_eq!((racked, &rack), (Racked::NotEnabled, &exact));
+            assert_eq!((racked, &rack), (Racked::NotEnabled { row, value }, &exact));
         }
         Stepped::RunsOff(_) => {
             seen.runs_off += 1;

@@ -1,10 +1,14 @@
 -- No answer's number is 0, and one number alone is the answer that promises something.
 use mathlib.Core.Path.{_≡_, refl, ap}
+use mathlib.Core.Logic.{_↔_}
 use Prim.Native.Nat.{ℕ, _≤_}
 use native.Mathlib.Omega.{arith}
+use lib.IntN.{pos}
+use lib.Signed.{_<ℤ_}
 use Rattle.programs.specs.declared.Checked.{Checked}
 use Rattle.programs.specs.declared.Checked.the-variants.{Good}
 use Rattle.programs.specs.declared.Checked.the-variants.{Refused as NotGood}
+use Rattle.runs.specs.declared.Failing.{Failing}
 use Rattle.runs.specs.declared.Stepped.{Stepped}
 use Rattle.runs.specs.declared.Stepped.the-variants.{Moved, NotEnabled, RunsOff}
 use Rattle.runs.specs.declared.Stepped.the-variants.{Refused as NotStepped}
@@ -29,16 +33,23 @@ check-nonzero (NotGood r) = omega arith
 
 pub step-nonzero : (s : Stepped) → 1 ≤ stepOf s .answer
 step-nonzero Moved = omega arith
-step-nonzero NotEnabled = omega arith
+step-nonzero (NotEnabled f) = omega arith
 step-nonzero (RunsOff v) = omega arith
 step-nonzero (NotStepped r) = omega arith
 
 -- only runs off is 2
 pub step-two : (s : Stepped) → ((v : ℕ) → s ≡ RunsOff v → ⊥) → stepOf s .answer ≡ 2 → ⊥
 step-two Moved never e = absurd (omega arith)
-step-two NotEnabled never e = absurd (omega arith)
+step-two (NotEnabled f) never e = absurd (omega arith)
 step-two (RunsOff v) never e = never v refl
 step-two (NotStepped r) never e = absurd (omega arith)
+
+-- only not enabled is 1, and its guard row alone has a value below 0
+pub step-below : (s : Stepped) → ((f : Failing) → s ≡ NotEnabled f → f .value <ℤ pos 0) → (stepOf s .answer ≡ 1) ↔ (stepOf s .«row_value» <ℤ pos 0)
+step-below Moved below = (λ e. absurd (omega arith), λ h. absurd (h .lt))
+step-below (NotEnabled f) below = (λ e. below f refl, λ h. refl)
+step-below (RunsOff v) below = (λ e. absurd (omega arith), λ h. absurd (h .lt))
+step-below (NotStepped r) below = (λ e. absurd (omega arith), λ h. absurd (h .lt))
 
 pub ask-nonzero : (a : Asked) → 1 ≤ askOf a .answer
 ask-nonzero Accepted = omega arith

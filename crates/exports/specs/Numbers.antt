@@ -3,13 +3,14 @@
 --
 -- checkOf     — Check: 1 good with the five counts, 2 refused
 -- partOf      — Action part: where it begins in the list, and its length
--- stepOf      — Step: 1 not enabled, 2 runs off with the variable, 3 refused, 4 moved
+-- stepOf      — Step: 1 not enabled with the guard row and its value, 2 runs off with the variable, 3 refused, 4 moved
 -- askOf       — Ask: 1 not accepted, 2 refused, 3 accepted
 -- judgeOf     — Judge: 1 may forbid with node and combination, 2 may run off with node, action, variable and end, 3 refused, 4 safe
 -- notJudged, showOf — a show's bytes: 1 too long, 2 odd bytes, 3 the words list is too short, 4 Judge's answer with the words of logic and lemmas
 -- findingsOf  — Findings: 1 refused, 2 listed with their number
 -- successorOf — the view: 1 none, 2 refused, 3 a node
 use mathlib.Core.Bool.{cond}
+use lib.IntN.{pos}
 use Rattle.words.specs.Refusals.{number, value}
 use Rattle.programs.specs.declared.Checked.{Checked}
 use Rattle.programs.specs.declared.Checked.the-variants.{Good}
@@ -60,10 +61,10 @@ abbrev pub partOf : Part → BnvPart
 partOf p = record { start = p .start; length = p .length }
 
 abbrev pub stepOf : Stepped → BnvStep
-stepOf Moved = record { answer = 4; variable = 0; refusal = 0; value = 0 }
-stepOf NotEnabled = record { answer = 1; variable = 0; refusal = 0; value = 0 }
-stepOf (RunsOff v) = record { answer = 2; variable = v; refusal = 0; value = 0 }
-stepOf (NotStepped r) = record { answer = 3; variable = 0; refusal = number r; value = value r }
+stepOf Moved = record { answer = 4; row = 0; variable = 0; refusal = 0; «row_value» = pos 0; value = 0 }
+stepOf (NotEnabled f) = record { answer = 1; row = f .row; variable = 0; refusal = 0; «row_value» = f .value; value = 0 }
+stepOf (RunsOff v) = record { answer = 2; row = 0; variable = v; refusal = 0; «row_value» = pos 0; value = 0 }
+stepOf (NotStepped r) = record { answer = 3; row = 0; variable = 0; refusal = number r; «row_value» = pos 0; value = value r }
 
 abbrev pub askOf : Asked → BnvAsk
 askOf Accepted = record { answer = 3; refusal = 0; value = 0 }

@@ -1,10 +1,16 @@
 // The calls for C and Rust: lists are lent, answers are records of numbers. include/bulanevior.h describes them for their callers.
 ghost use mathlib.Core.Path.{_≡_};
 ghost use mathlib.Core.Bool.{cond};
+ghost use mathlib.Core.Logic.{_↔_};
 ghost use Prim.Native.Nat.{_+_, _≤_};
+ghost use lib.IntN.{pos};
+ghost use lib.Signed.{_<ℤ_};
 ghost use lib.ListN.{length, take, drop};
 ghost use Rattle.programs.specs.Calls.{read, check, actionPart, partPlace};
+ghost use Rattle.runs.specs.declared.Failing.{Failing};
+ghost use Rattle.runs.specs.declared.Stepped.the-variants.{NotEnabled};
 ghost use Rattle.runs.specs.Calls.{stepCall};
+ghost use Rattle.runs.specs.Values.{Fits};
 ghost use Rattle.rack.specs.Rack.{rackCall};
 ghost use Rattle.ask.specs.Calls.{ask, TrueIn};
 ghost use Rattle.judge.specs.Calls.{judge};
@@ -109,37 +115,49 @@ pub const BNV_MOVED: u32 = 4;
 #[repr(C)]
 pub struct BnvStep {
     pub answer: u32,
+    // The first guard row that fails, and its value; the two stand where there was padding.
+    pub row: u32,
     pub variable: usize,
     pub refusal: u32,
+    pub row_value: i32,
     pub value: usize,
 }
 
 fn step_of(s: Stepped) -> BnvStep
+    requires { ⌜ ((f : Failing) → s ≡ NotEnabled f → Fits f) ⌝ }
     ensures { λ r. ⌜ r ≡ stepOf s ⌝ }
 {
     match s {
         Stepped::Moved => BnvStep {
             answer: BNV_MOVED,
+            row: 0,
             variable: 0,
             refusal: 0,
+            row_value: 0,
             value: 0,
         },
-        Stepped::NotEnabled => BnvStep {
+        Stepped::NotEnabled(failing) => BnvStep {
             answer: BNV_NOT_ENABLED,
+            row: failing.row as u32,
             variable: 0,
             refusal: 0,
+            row_value: failing.value as i32,
             value: 0,
         },
         Stepped::RunsOff(v) => BnvStep {
             answer: BNV_RUNS_OFF,
+            row: 0,
             variable: v,
             refusal: 0,
+            row_value: 0,
             value: 0,
         },
         Stepped::Refused(why) => BnvStep {
             answer: BNV_STEP_REFUSED,
+            row: 0,
             variable: 0,
             refusal: words::number_of(why),
+            row_value: 0,
             value: words::value_of(why),
         },
     }
@@ -151,6 +169,7 @@ pub extern "C" fn bnv_step(words: &[u32], k: usize, state: &mut [i32]) -> BnvSte
     ensures answer { λ r. ⌜ r ≡ stepOf (stepCall (now (words .entry)) k (now (state .entry)) .answer) ⌝ }
     ensures state { λ _. ⌜ now (state .exit) ≡ stepCall (now (words .entry)) k (now (state .entry)) .state ⌝ }
     ensures nonzero { λ r. ⌜ 1 ≤ r .answer ⌝ }
+    ensures below { λ r. ⌜ (r .answer ≡ 1) ↔ (r .«row_value» <ℤ pos 0) ⌝ }
 {
     step_of(runs::step(words, k, &mut *state))
 }
@@ -162,6 +181,7 @@ pub extern "C" fn bnv_rack_step(words: &[u32], k: usize, state: &mut [i32]) -> B
     ensures state { λ _. ⌜ now (state .exit) ≡ rackCall (now (words .entry)) k (now (state .entry)) .state ⌝ }
     ensures nonzero { λ r. ⌜ 1 ≤ r .answer ⌝ }
     ensures never_off { λ r. ⌜ (r .answer ≡ 2 → ⊥) ⌝ }
+    ensures below { λ r. ⌜ (r .answer ≡ 1) ↔ (r .«row_value» <ℤ pos 0) ⌝ }
 {
     step_of(rack::rack_step(words, k, &mut *state))
 }

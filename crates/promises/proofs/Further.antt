@@ -3,18 +3,18 @@
 --                                       Agrees with Judge's answer, and g at exit is Judge's                        crates/findings/src/lib.rt
 --   reader::row_at(words, at, vars)     where vars ≤ 8 and at ≤ length words: r has the row and where reading goes on, or the refusal, of
 --                                       row vars (drop at words) at, and of fed (begun vars at) (drop at words)     crates/reader/src/lib.rt
---   rack::rack_step(ws, k, s)           r and s at exit are those of rackCall ws k s                                  crates/rack/src/lib.rt
---   exports::bnv_findings, _rack_step   the same, r as the records of numbers findingsOf and stepOf; the rack's answer is not 2  crates/exports/src/lib.rt
+--   rack::rack_step(ws, k, s)           r and s at exit are those of rackCall ws k s; Guarded (ready (read ws) k s) k s r, of r here and of runs::step's  crates/rack, runs
+--   exports::bnv_findings, _rack_step   the same, r as the records of numbers findingsOf and stepOf; the rack's answer is not 2; _step's too is 1 exactly where row_value is below 0  crates/exports
 use mathlib.Core.{Path.{_≡_}, Bool.{true, false, cond}, Logic.{_⊎_, _↔_}, List.{List, [], _∷_, _++_, map, List·Memᴰ}}
 use Prim.Native.Nat.{ℕ, _^_, _≤_, _<_}
-use lib.{Dec.{eqb}, IntN.{ℤ, pos, negsuc, _+ℤ_, _*ℤ_}, ListN.{length, getD}}
+use lib.{Dec.{eqb}, IntN.{ℤ, pos, negsuc, _+ℤ_, _*ℤ_}, Signed.{_≤ℤ_}, ListN.{length, getD}}
 use Rattle.words.specs.{Words.{kindOf, FINDING, signed}, Limits.{mostNodes, mostFindings, mostVariables}, declared.Refusal.the-variants.{Word as Missing}, LiteralSets.{Literal, B, NotB, predicateOf, literalsIn}}
 use Rattle.rows.specs.{declared.Row.{Row}, Rows.{rowValue}}
 use Rattle.grammar.specs.{Reading.{got}, Programs.{Assignment, Action, Program}, WellFormed.{Each, WellFormed}, Grammar.{row}}
 use Rattle.feed.specs.{declared.Fed.the-variants.{End}, declared.Said.the-variants.{Complete, Refused}, Steps.{Held, place, rowStep, fed, begun}}
 use Rattle.lemmas.specs.{Lemmas.{HoldsAfter, FailsAfter, Lemma}, LemmaGrammar.{LemmaOk, setsVariable}}
 use Rattle.programs.specs.Calls.{read}
-use Rattle.runs.specs.{declared.Stepped.the-variants.{Moved, RunsOff}, Runs.{Inside, Start, newState, Finished, run}, Calls.{stay, stepCall}}
+use Rattle.runs.specs.{declared.Failing.{Failing}, declared.Stepped.the-variants.{Moved, NotEnabled, RunsOff}, Runs.{allHold, Inside, Start, newState, Finished, run}, Guards.{firstFailing, Near}, Calls.{stay, stepCall}}
 use Rattle.sixteen.specs.Sixteen.{in16, cut, wrappedSum, wrappedProduct, wrappedValue}
 use Rattle.rack.specs.Rack.{rackState, rackRun, rackCall}
 use Rattle.frame.specs.Frame.{zeroOn, untouched}
@@ -24,7 +24,7 @@ use Rattle.abstraction.specs.{Abstraction.{among, shown, successor, graph}, Fai
 use Rattle.verdict.specs.Verdicts.{Finding, findings}
 use Rattle.sheet.specs.Sheets.{findingWord, Fits, Due, Sheet, Told}
 use Rattle.judge.specs.{declared.Judged.the-variants.{Safe as IsSafe}, Calls.{judge}}
-use Rattle.worked.specs.Shows.{incident, incidentProgram, nineTimes}
+use Rattle.worked.specs.Shows.{fade, incident, incidentProgram, nineTimes, row2}
 
 -- ---- request 1: untouched predicates keep their literal
 -- a literal is in the successor exactly if an accepted lemma shows it, or the action leaves its predicate untouched and it is a literal of the node
@@ -32,15 +32,12 @@ pub successor-literals : (p : Program) (ls : List Lemma) (k : ℕ) (node next : 
     → List·Memᴰ m next ↔ ((predicateOf m < length (p .predicates)) × ((shown p ls k node (Then m) ≡ true) ⊎ ((untouched p k (predicateOf m) ≡ true) × List·Memᴰ m node)))
 successor-literals p ls k node next e = Rattle.abstraction.proofs.Kept.successor-literals p ls k node e
 
--- there is none exactly if a lemma shows that the action cannot happen, or both literals of a predicate follow
+-- there is none exactly if a lemma shows that the action cannot happen, or both literals of a predicate follow; so a lemma for the opposite of a literal that is kept still gives none
 pub no-successor : (p : Program) (ls : List Lemma) (k : ℕ) (node : List Literal) → let known = follows (shown p ls k node) (untouched p k) (λ m. among m node) in
-    (successor p ls k node ≡ False) ↔ ((shown p ls k node Disabled ≡ true) ⊎ ((j : ℕ) × (j < length (p .predicates)) × (known (B j) ≡ true) × (known (NotB j) ≡ true)))
-no-successor p ls k node = Rattle.formula.proofs.Laws.false-is (shown p ls k node) (untouched p k) (λ m. among m node) (length (p .predicates))
-
--- so a lemma for the opposite of a literal that is kept still gives no successor
-pub opposed-none : (p : Program) (ls : List Lemma) (k : ℕ) (node : List Literal) (j : ℕ) → j < length (p .predicates) → untouched p k j ≡ true
-    → (List·Memᴰ (B j) node × (shown p ls k node (Then (NotB j)) ≡ true)) ⊎ (List·Memᴰ (NotB j) node × (shown p ls k node (Then (B j)) ≡ true)) → successor p ls k node ≡ False
-opposed-none = Rattle.abstraction.proofs.Kept.opposed-none
+    ((successor p ls k node ≡ False) ↔ ((shown p ls k node Disabled ≡ true) ⊎ ((j : ℕ) × (j < length (p .predicates)) × (known (B j) ≡ true) × (known (NotB j) ≡ true))))
+    × ((j : ℕ) → j < length (p .predicates) → untouched p k j ≡ true
+    → (List·Memᴰ (B j) node × (shown p ls k node (Then (NotB j)) ≡ true)) ⊎ (List·Memᴰ (NotB j) node × (shown p ls k node (Then (B j)) ≡ true)) → successor p ls k node ≡ False)
+no-successor p ls k node = (Rattle.formula.proofs.Laws.false-is (shown p ls k node) (untouched p k) (λ m. among m node) (length (p .predicates)), Rattle.abstraction.proofs.Kept.opposed-none p ls k node)
 
 -- the law behind it: a row with a zero coefficient on every variable that is set keeps its value, at any new state that agrees with the old one on the others
 pub frame : (ss : List Assignment) (r : Row) (s t : List ℤ) → zeroOn ss r ≡ true → ((v : ℕ) → setsVariable ss v ≡ false → getD t v (pos 0) ≡ getD s v (pos 0)) → rowValue r t ≡ rowValue r s
@@ -63,16 +60,10 @@ findings-due = Rattle.sheet.proofs.Dues.findings-are
 pub finding-word : (f : Finding) → Fits f → (findingWord f < 2 ^ 32) × (kindOf (findingWord f) ≡ FINDING) × ((f′ : Finding) → Fits f′ → findingWord f ≡ findingWord f′ → f ≡ f′)
 finding-word f h = (Rattle.sheet.proofs.Fields.word-small f h, Rattle.sheet.proofs.Fields.word-kind f h, λ f′. Rattle.sheet.proofs.Fields.word-tells f f′ h)
 
--- the words of a graph's findings are its sheet, and it has one sheet only: what is due and the order fix the list, word for word
-pub sheet : (p : Program) → WellFormed p → (ls : List Lemma) (g : Graph) → count g ≤ mostNodes → Sheet p ls g (map findingWord (findings p ls g))
-sheet = Rattle.sheet.proofs.Sheet.sheet
-
-pub sheet-unique : (p : Program) (ls : List Lemma) (g : Graph) (xs ys : List ℕ) → Sheet p ls g xs → Sheet p ls g ys → xs ≡ ys
-sheet-unique p ls g = Rattle.sheet.proofs.Sheet.sheet-unique
-
--- there are at most 135,168
-pub findings-few : (p : Program) → WellFormed p → (ls : List Lemma) (g : Graph) → count g ≤ mostNodes → length (findings p ls g) ≤ mostFindings
-findings-few = Rattle.sheet.proofs.Most.findings-few
+-- the words of a graph's findings, at most 135,168, are its sheet, and it has one sheet only: what is due and the order fix the list, word for word
+pub sheet : (p : Program) (ls : List Lemma) (g : Graph)
+    → (WellFormed p → count g ≤ mostNodes → Sheet p ls g (map findingWord (findings p ls g)) × (length (findings p ls g) ≤ mostFindings)) × ((xs ys : List ℕ) → Sheet p ls g xs → Sheet p ls g ys → xs ≡ ys)
+sheet p ls g = (λ good few. (Rattle.sheet.proofs.Sheet.sheet p good ls g few, Rattle.sheet.proofs.Most.findings-few p good ls g few), Rattle.sheet.proofs.Sheet.sheet-unique)
 
 -- nothing is missed: at every state of every run from a start state, each combination that it meets and each end by which an action runs off is due
 pub nothing-missed : (p : Program) → WellFormed p → (ls : List Lemma) → Each (LemmaOk p) ls → (g : Graph) → Faithful p ls g → (s : List ℤ) → Start p s
@@ -100,13 +91,10 @@ pub rack-stores : (s : List ℤ) → Each (λ z. in16 z ≡ true) s → ((a : Ac
     × ((p : Program) (ks : List ℕ) → (rackRun p ks s .ending ≡ Finished) × Each (λ t. Each (λ z. in16 z ≡ true) t) (rackRun p ks s .states))
 rack-stores s h = (λ a. Rattle.rack.proofs.Exact.state-kept a s h, λ p ks. Rattle.rack.proofs.Runs.goes-on p ks s h)
 
--- the call answers moved or not enabled, or refuses; where Step does not run off, it answers and leaves what Step does
-pub rack-call : (ws : List ℕ) (k : ℕ) (s : List ℤ) → ((v : ℕ) → rackCall ws k s .answer ≡ RunsOff v → ⊥) × (((v : ℕ) → stepCall ws k s .answer ≡ RunsOff v → ⊥) → rackCall ws k s ≡ stepCall ws k s)
-rack-call ws k s = (Rattle.rack.proofs.Runs.never-runs-off ws k s, Rattle.rack.proofs.Runs.same-call ws k s)
-
--- where the exact run of a list of actions does not run off, it is the rack's: every state, the moves and the ending
-pub rack-run : (p : Program) → WellFormed p → (ks : List ℕ) (s : List ℤ) → Inside p s → run p ks s .ending ≡ Finished → rackRun p ks s ≡ run p ks s
-rack-run = Rattle.rack.proofs.Runs.same-run
+-- the call answers moved or not enabled, or refuses; where Step does not run off, it answers and leaves what Step does. Where the exact run of a list of actions does not, it is the rack's
+pub rack-steps : ((ws : List ℕ) (k : ℕ) (s : List ℤ) → ((v : ℕ) → rackCall ws k s .answer ≡ RunsOff v → ⊥) × (((v : ℕ) → stepCall ws k s .answer ≡ RunsOff v → ⊥) → rackCall ws k s ≡ stepCall ws k s))
+    × ((p : Program) → WellFormed p → (ks : List ℕ) (s : List ℤ) → Inside p s → run p ks s .ending ≡ Finished → rackRun p ks s ≡ run p ks s)
+rack-steps = (λ ws k s. (Rattle.rack.proofs.Runs.never-runs-off ws k s, Rattle.rack.proofs.Runs.same-call ws k s), Rattle.rack.proofs.Runs.same-run)
 
 -- after Judge's verdict safe: from any start state and along any list of actions the two runs are the same, and at each of its states the two calls are
 pub rack-after-safe : (ws lemmas gl pl : List ℕ) (n e : ℕ) → judge ws lemmas gl pl .answer ≡ IsSafe n e → (p : Program) {us : List ℕ} {i : ℕ} → read ws ≡ got p us i → (s : List ℤ) → Start p s
@@ -118,3 +106,14 @@ pub rack-incident : (stepCall incident 0 (pos 5 ∷ []) ≡ stay (RunsOff 0) (po
     × (rackRun incidentProgram (0 ∷ 0 ∷ []) (pos 5 ∷ []) .states ≡ (pos 5 ∷ []) ∷ (negsuc 4 ∷ []) ∷ (negsuc 14 ∷ []) ∷ [])
     × (let s = pos 8191 ∷ pos 8191 ∷ [] in (stepCall nineTimes 0 s ≡ stay (RunsOff 0) s) × (rackCall nineTimes 0 s ≡ record { answer = Moved; state = pos 8183 ∷ pos 8191 ∷ [] }))
 rack-incident = Rattle.worked.proofs.Racks.incident-racked
+
+-- ---- request 5: how near it was
+-- rows all hold exactly where the first failing one's value is at least 0. Where one fails, firstFailing alone is near: the rows before it hold, and its exact value is below 0
+pub first-failing : (rows : List Row) (s : List ℤ) → ((allHold rows s ≡ true) ↔ (pos 0 ≤ℤ firstFailing rows s .value))
+    × ((f : Failing) → Near rows s f ↔ ((allHold rows s ≡ false) × (f ≡ firstFailing rows s)))
+first-failing = Rattle.runs.proofs.Guards.first-failing
+
+-- it says something: Fade's level of 0 lacks 5, for both steps; and of rows worth 0, -5 and -9 it is row 1 that lacks 5
+pub near-worked : (let lacks : ℕ → Failing = λ k. record { row = k; value = negsuc 4 } in let s = pos 0 ∷ [] in (stepCall fade 0 s ≡ stay (NotEnabled (lacks 0)) s) × (rackCall fade 0 s ≡ stay (NotEnabled (lacks 0)) s)
+    × (firstFailing (row2 (pos 1) (pos 0) (negsuc 4) ∷ row2 (pos 1) (pos 0) (negsuc 9) ∷ row2 (pos 1) (pos 0) (negsuc 13) ∷ []) (pos 5 ∷ []) ≡ lacks 1))
+near-worked = Rattle.worked.proofs.Near.near-worked

@@ -9,6 +9,7 @@ use lib.Dec.{ltb}
 use lib.IntN.{ℤ}
 use lib.ListN.{length}
 use borrow.Author.Tests.{ltb-false}
+use Rattle.rows.specs.declared.Row.{Row}
 use Rattle.rows.specs.declared.Range.{Range}
 use Rattle.grammar.specs.Reading.{Read, got, refused}
 use Rattle.grammar.specs.Programs.{Program}
@@ -17,7 +18,9 @@ use Rattle.grammar.proofs.ProgramLaws.{accepted}
 use Rattle.programs.specs.Calls.{read}
 use Rattle.runs.specs.declared.Stepped.the-variants.{RunsOff as AnswerRunsOff}
 use Rattle.runs.specs.Runs.{Outcome, Moved, NotEnabled, RunsOff, Finished, RanOff, Inside, Start, lowestOff, landed, enabled, actionOf, newState, newValue, step, onward, run, Safe}
+use Rattle.runs.specs.Guards.{Guarded}
 use Rattle.runs.specs.Calls.{ready, answered, outcome, stepCall}
+use Rattle.runs.proofs.Guards.{guarded}
 use Rattle.runs.proofs.Answers.{ready-known}
 use Rattle.runs.proofs.Steps.{Leaves, run-on, inside-left}
 use Rattle.runs.proofs.Trying.{lowest-most}
@@ -79,19 +82,23 @@ same-call ws k s never = go (ready (read ws) k s) refl never
     go (refused r) e n = refl
     go (got p us i) e n =
         let m = ready-known (read ws) k s e in
-        ap (λ (o : Outcome). outcome o s) (same-step p (accepted ws p us i (m .is-read) .good) k s (m .inside) refl (λ v f. n v (ap (λ (o : Outcome). outcome o s .answer) f)))
+        ap (λ (o : Outcome). outcome (actionOf p k .guards) o s) (same-step p (accepted ws p us i (m .is-read) .good) k s (m .inside) refl (λ v f. n v (ap (λ (o : Outcome). outcome (actionOf p k .guards) o s .answer) f)))
+
+-- what an answer of it says of the guards
+pub rack-guarded : (m : Read Program) (k : ℕ) (s : List ℤ) → Guarded m k s (answered rackStep m k s .answer)
+rack-guarded m k s = guarded rackStep (λ p. Moved (rackState (actionOf p k) s)) k s (λ p. refl) (λ p e. let z : _≡_ {A = ℕ} 0 1 = cc e in absurd (omega arith)) m
 
 -- the rack's step answers moved or not enabled, or refuses
 pub never-runs-off : (ws : List ℕ) (k : ℕ) (s : List ℤ) (v : ℕ) → rackCall ws k s .answer ≡ AnswerRunsOff v → ⊥
 never-runs-off ws k s v e = go (ready (read ws) k s) e
   where
-    tried : (b : Bool) (t : List ℤ) → outcome (cond b (Moved t) NotEnabled) s .answer ≡ AnswerRunsOff v → ⊥
-    tried true t f = let z : _≡_ {A = ℕ} 0 1 = cc f in absurd (omega arith)
-    tried false t f = let z : _≡_ {A = ℕ} 0 1 = cc f in absurd (omega arith)
+    tried : (guards : List Row) (b : Bool) (t : List ℤ) → outcome guards (cond b (Moved t) NotEnabled) s .answer ≡ AnswerRunsOff v → ⊥
+    tried guards true t f = let z : _≡_ {A = ℕ} 0 1 = cc f in absurd (omega arith)
+    tried guards false t f = let z : _≡_ {A = ℕ} 0 1 = cc f in absurd (omega arith)
 
     go : (m : Read Program) → answered rackStep m k s .answer ≡ AnswerRunsOff v → ⊥
     go (refused r) f = let z : _≡_ {A = ℕ} 0 1 = cc f in absurd (omega arith)
-    go (got p us i) f = tried (enabled (actionOf p k) s) (rackState (actionOf p k) s) f
+    go (got p us i) f = tried (actionOf p k .guards) (enabled (actionOf p k) s) (rackState (actionOf p k) s) f
 
 -- ---- from safe, in the calls' terms
 module _ (ws : List ℕ) (p : Program) {us : List ℕ} {i : ℕ} (q : read ws ≡ got p us i) where
@@ -99,7 +106,7 @@ module _ (ws : List ℕ) (p : Program) {us : List ℕ} {i : ℕ} (q : read ws �
   abbrev Harmless : List ℤ → Type 0
   Harmless s = (ks : List ℕ) → Each (λ k. k < length (p .actions)) ks → run p ks s .ending ≡ Finished
 
-  step-off : (k : ℕ) (s : List ℤ) (o : Outcome) (v : ℕ) → step p k s ≡ o → outcome o s .answer ≡ AnswerRunsOff v → run p (k ∷ []) s .ending ≡ RanOff
+  step-off : (k : ℕ) (s : List ℤ) (o : Outcome) (v : ℕ) → step p k s ≡ o → outcome (actionOf p k .guards) o s .answer ≡ AnswerRunsOff v → run p (k ∷ []) s .ending ≡ RanOff
   unfolding run
   step-off k s (Moved t) v e f = let z : _≡_ {A = ℕ} 0 1 = cc f in absurd (omega arith)
   step-off k s NotEnabled v e f = let z : _≡_ {A = ℕ} 0 1 = cc f in absurd (omega arith)
@@ -114,7 +121,7 @@ module _ (ws : List ℕ) (p : Program) {us : List ℕ} {i : ℕ} (q : read ws �
           let m = ready-known (read ws) k s f in
           let same : p′ ≡ p = cc (m .is-read, q) in
           let known = subst (λ (x : Program). k < length (x .actions)) same (m .known) in
-          let off = step-off k s (step p k s) v refl (subst (λ (x : Program). outcome (step x k s) s .answer ≡ AnswerRunsOff v) same g) in
+          let off = step-off k s (step p k s) v refl (subst (λ (x : Program). outcome (actionOf x k .guards) (step x k s) s .answer ≡ AnswerRunsOff v) same g) in
           let z : _≡_ {A = ℕ} 0 1 = cc (sym off ∙ h (k ∷ []) (known, tt)) in
           absurd (omega arith)
 

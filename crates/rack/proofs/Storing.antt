@@ -14,9 +14,11 @@ use Rattle.actions.specs.NewRows.{keepRows, assigned}
 use Rattle.runs.specs.declared.Begun.{Begun}
 use Rattle.runs.specs.declared.Stepped.the-variants.{Moved, NotEnabled}
 use Rattle.runs.specs.Runs.{Outcome, enabled, actionOf}
+use Rattle.runs.specs.Guards.{firstFailing}
 use Rattle.runs.specs.Calls.{outcome, stay}
 use Rattle.runs.specs.Values.{padded}
 use Rattle.runs.proofs.Answers.{Trial, at, well-formed, action-ok}
+use Rattle.runs.proofs.Guards.{none-fails}
 use Rattle.runs.proofs.Tried.{new-state, same-guards}
 use Rattle.sixteen.specs.Sixteen.{cut, wrappedValue}
 use Rattle.sixteen.proofs.Laws.{wrapped-exact}
@@ -30,9 +32,10 @@ rows-kept zero rs x = refl
 rows-kept (suc n) [] x = refl
 rows-kept (suc n) (r ∷ rs) x = rw (wrapped-exact r x, rows-kept n rs x) refl
 
-decided : (on : Bool) (s t : List ℤ) → cond on (record { answer = Moved; state = t }) (stay NotEnabled s) ≡ outcome (cond on (Outcome.Moved t) Outcome.NotEnabled) s
-decided true s t = refl
-decided false s t = refl
+decided : (guards : List Row) (on : Bool) (s t : List ℤ) → cond on (record { answer = Moved; state = t }) (stay (NotEnabled (firstFailing guards s)) s)
+    ≡ outcome guards (cond on (Outcome.Moved t) Outcome.NotEnabled) s
+decided guards true s t = refl
+decided guards false s t = refl
 
 pub stored-is : (ws : List ℕ) (k : ℕ) (s : List ℤ) {b : Begun} → Trial ws k s b → stored b s ≡ rackCall ws k s
 stored-is ws k s t =
@@ -44,7 +47,7 @@ stored-is ws k s t =
     let ok = action-ok ws k s t in
     let e = rows-kept (length s) (assigned keepRows (a .sets)) (padded s) ∙ ap (map kept) (new-state p (t .rest) (t .index) k s l few ok)
     ∙ sym (state-kept a s (inside-held p good s (at ws k s t .inside))) in
-    rw (t .is-begun, t .is-ready, same-guards p (t .rest) (t .index) k s l few ok, e) (decided (enabled a s) s (rackState a s))
+    rw (t .is-begun, t .is-ready, same-guards p (t .rest) (t .index) k s l few ok, none-fails (a .guards) s, e) (decided (a .guards) (enabled a s) s (rackState a s))
 
 pub all-fit : (rs : List Row) (held : List ℕ) (v : ℕ) → SFits w32 (getD (map (λ r. wrappedValue r held) rs) v (pos 0))
 all-fit [] held v = record { sfits = omega arith }

@@ -2,6 +2,9 @@
 ghost use mathlib.Core.Path.{_≡_};
 ghost use Prim.Native.Nat.{_≤_};
 ghost use lib.ListN.{length};
+ghost use Rattle.programs.specs.Calls.{read};
+ghost use Rattle.runs.specs.Guards.{Guarded};
+ghost use Rattle.runs.specs.Calls.{ready};
 ghost use Rattle.runs.specs.Values.{Good};
 ghost use Rattle.rack.specs.Rack.{rackCall};
 ghost use Rattle.rack.specs.Values.{stored};
@@ -17,8 +20,9 @@ fn store_action(b: Begun, state: &mut [i32]) -> Stepped
     let guards = b.guards;
     let guard = b.guard;
     let old = b.old;
-    if !runs::all_hold(guard, guards, old) {
-        return Stepped::NotEnabled;
+    let failing = runs::first_failing(guard, guards, old);
+    if failing.value < 0 {
+        return Stepped::NotEnabled(failing);
     }
     let rows = b.rows;
     let new = sixteen::values(rows, sixteen::hold(old));
@@ -29,7 +33,8 @@ fn store_action(b: Begun, state: &mut [i32]) -> Stepped
 // The rack's step: action k of a program, taken on a lent state. It never answers `RunsOff`; `Moved` writes what the rack stores.
 pub fn rack_step(words: &[u32], k: usize, state: &mut [i32]) -> Stepped
     ensures { λ r. ⌜ (r ≡ rackCall (now (words .entry)) k (now (state .entry)) .answer)
-        × (now (state .exit) ≡ rackCall (now (words .entry)) k (now (state .entry)) .state) ⌝ }
+        × (now (state .exit) ≡ rackCall (now (words .entry)) k (now (state .entry)) .state)
+        × Guarded (ready (read (now (words .entry))) k (now (state .entry))) k (now (state .entry)) r ⌝ }
 {
     let begun = runs::begin(words, k, &state[..]);
     let status = begun.status;

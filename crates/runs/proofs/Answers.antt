@@ -57,7 +57,7 @@ held ws {x} e h = go (read ws) refl e
     go (got p us i) q f = record { program = p; rest = us; index = i; is-read = q; image-is = ap (λ (y : Loaded). y .image) f }
     go (refused r) q f = let z : _≡_ {A = ℕ} 0 1 = cc (ap (λ (y : Loaded). y .status) f, h) in absurd (omega arith)
 
-each-at : (xs : List Action) (n j : ℕ) → Each (ActionOk n) xs → j < length xs → ActionOk n (getD xs j (record { guards = []; sets = [] }))
+pub each-at : (xs : List Action) (n j : ℕ) → Each (ActionOk n) xs → j < length xs → ActionOk n (getD xs j (record { guards = []; sets = [] }))
 each-at [] n j e h = absurd (omega arith)
 each-at (x ∷ xs) n zero e h = e .0
 each-at (x ∷ xs) n (suc j) e h = each-at xs n j (e .1) (omega arith)

@@ -1,4 +1,5 @@
 pub mod Loops
+pub mod Guards
 pub mod Trying
 pub mod Sizes
 pub mod NewValues
@@ -6,3 +7,4 @@ pub mod Tried
 pub mod LiteralRows
 pub mod Answers
 pub mod Steps
+pub mod NearSizes

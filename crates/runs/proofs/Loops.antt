@@ -1,20 +1,16 @@
 -- One turn of each loop over a state.
 use mathlib.Core.Path.{_≡_, refl, sym, ap, _∙_}
-use mathlib.Core.Bool.{true, false, cond, _&&_}
+use mathlib.Core.Bool.{true, false, cond}
 use mathlib.Core.List.{List, _∷_, _++_}
 use Prim.Native.Nat.{ℕ, suc, _+_, _-_, _≤_, _<_}
 use native.Mathlib.Omega.{arith}
 use native.Mathlib.Numerals.{add-one}
 use lib.IntN.{ℤ, pos}
-use lib.Signed.{leZ, ltZ}
 use lib.ListN.{length, getD, set, take, drop, replicate, drop-of-length-le}
 use lib.Seq.{drop-cons, take-suc, set-at, length-take-le, append-snoc}
-use Rattle.integers.proofs.Tests.{ltZ-true, ltZ-false, lt-leZ, le-leZ}
-use Rattle.rows.specs.Bounds.{noRow}
-use Rattle.rows.specs.declared.Row.{Row}
 use Rattle.rows.specs.declared.Range.{Range}
-use Rattle.rows.specs.Rows.{zeroRange, holds}
-use Rattle.runs.specs.Runs.{onRange, lowestOff, allHold}
+use Rattle.rows.specs.Rows.{zeroRange}
+use Rattle.runs.specs.Runs.{onRange, lowestOff}
 
 -- ---- a list copied from the front over another
 pub copied-next : (p : List ℤ) (y : ℤ) (ys : List ℤ) (v : ℕ) (s : List ℤ) → v < length s → p ≡ take v s ++ y ∷ ys → set p v (getD s v (pos 0)) ≡ take (v + 1) s ++ ys
@@ -41,25 +37,3 @@ module _ (gs : List Range) (xs : List ℤ) (v : ℕ) (l : v < length gs) (m : v 
 pub lowest-end : (gs : List Range) (xs : List ℤ) (v : ℕ) → length gs ≤ v → v + lowestOff (drop v gs) (drop v xs) ≡ lowestOff gs xs → v ≡ lowestOff gs xs
 unfolding lowestOff
 lowest-end gs xs v h e = let f : lowestOff (drop v gs) (drop v xs) ≡ 0 = rw (drop-of-length-le gs {i = v} h) refl in omega arith
-
--- ---- all of some rows
-module _ (rs : List Row) (x : List ℤ) (k : ℕ) (l : k < length rs) where
-  all-here : allHold (drop k rs) x ≡ (holds (getD rs k noRow) x && allHold (drop (suc k) rs) x)
-  unfolding allHold
-  all-here = rw (drop-cons rs k noRow l) refl
-
-  pub all-on : allHold (drop k rs) x ≡ allHold rs x → holds (getD rs k noRow) x ≡ true → allHold (drop (k + 1) rs) x ≡ allHold rs x
-  all-on e h = rw (add-one k) (sym (rw h at all-here) ∙ e)
-
-  pub all-stop : allHold (drop k rs) x ≡ allHold rs x → holds (getD rs k noRow) x ≡ false → false ≡ allHold rs x
-  all-stop e h = sym (rw h at all-here) ∙ e
-
-pub all-end : (rs : List Row) (x : List ℤ) (k : ℕ) → length rs ≤ k → allHold (drop k rs) x ≡ allHold rs x → true ≡ allHold rs x
-unfolding allHold
-all-end rs x k h e = let f : allHold (drop k rs) x ≡ true = rw (drop-of-length-le rs {i = k} h) refl in sym f ∙ e
-
-pub below-fails : (z : ℤ) → ltZ z (pos 0) ≡ true → leZ (pos 0) z ≡ false
-below-fails z h = lt-leZ (pos 0) z (ltZ-true z (pos 0) h)
-
-pub above-holds : (z : ℤ) → ltZ z (pos 0) ≡ false → leZ (pos 0) z ≡ true
-above-holds z h = le-leZ (pos 0) z (ltZ-false z (pos 0) h)

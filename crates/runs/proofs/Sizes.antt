@@ -67,7 +67,7 @@ each-within [] p k = zero-within 1000
 each-within (c ∷ cs) p zero = between-within (negsuc 999) (pos 1000) c (literal tt tt) (literal tt tt) (p .0)
 each-within (c ∷ cs) p (suc k) = each-within cs (p .1) k
 
-row-read : {vars : ℕ} {r : Row} → RowOk vars r → Read r
+pub row-read : {vars : ℕ} {r : Row} → RowOk vars r → Read r
 row-read {r = r} p = record { coefs = each-within (r .coef) (p .small); const = between-within (negsuc 999999) (pos 1000000) (r .constant) (literal tt tt) (literal tt tt) (p .constant) }
 
 pub read-small : {r : Row} → Read r → Small r

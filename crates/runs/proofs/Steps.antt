@@ -42,11 +42,11 @@ module _ (ws : List ℕ) (p : Program) {us : List ℕ} {i : ℕ} (q : read ws �
   pub call-leaves : (k : ℕ) (s : List ℤ) → k < length (p .actions) → Inside p s → ((v : ℕ) → stepCall ws k s .answer ≡ RunsOff v → ⊥) → Leaves p k s (stepCall ws k s .state)
   call-leaves k s known h never = go (step p k s) refl
     where
-      same : outcome (step p k s) s ≡ stepCall ws k s
+      same : outcome (actionOf p k .guards) (step p k s) s ≡ stepCall ws k s
       same = ap (λ (m : Read Program). answered step m k s) (sym (on-range ws p q k s known (h .long) (omega (arith, h .none-off))))
 
-      by : (o : Outcome) → step p k s ≡ o → outcome o s ≡ stepCall ws k s
-      by o e = ap (λ (x : Outcome). outcome x s) (sym e) ∙ same
+      by : (o : Outcome) → step p k s ≡ o → outcome (actionOf p k .guards) o s ≡ stepCall ws k s
+      by o e = ap (λ (x : Outcome). outcome (actionOf p k .guards) x s) (sym e) ∙ same
 
       go : (o : Outcome) → step p k s ≡ o → Leaves p k s (stepCall ws k s .state)
       go (Outcome.Moved t) e = inl (e ∙ ap Outcome.Moved (ap (λ (y : Stepping). y .state) (by (Outcome.Moved t) e)))

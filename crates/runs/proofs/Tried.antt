@@ -17,20 +17,21 @@ use Rattle.grammar.specs.WellFormed.{ActionOk}
 use Rattle.reader.specs.Results.{zeroRow, zeroRows}
 use Rattle.actions.specs.NewRows.{keepRows, assigned}
 use Rattle.programs.specs.Images.{zeroRanges}
-use Rattle.runs.specs.Runs.{Outcome, allHold, lowestOff, newValue, newState, enabled, actionOf, step}
+use Rattle.runs.specs.Runs.{Outcome, lowestOff, newValue, newState, enabled, actionOf, step}
 use Rattle.runs.specs.Calls.{outcome, stay}
 use Rattle.runs.specs.declared.Stepped.the-variants.{Moved, NotEnabled, RunsOff}
 use Rattle.runs.specs.Values.{padded, begun, tried}
-use Rattle.runs.proofs.Trying.{all-padded}
+use Rattle.runs.specs.Guards.{firstFailing}
+use Rattle.runs.proofs.Guards.{failing-padded, none-fails}
 use Rattle.runs.proofs.Sizes.{front-stored}
 use Rattle.runs.proofs.NewValues.{values-length, new-values}
 
 -- what the tests decide
-decided : (s t : List ℤ) (v : ℕ) (on off : Bool) → cond on (cond off (stay (RunsOff v) s) (record { answer = Moved; state = t })) (stay NotEnabled s)
-    ≡ outcome (cond on (cond off (Outcome.RunsOff v) (Outcome.Moved t)) Outcome.NotEnabled) s
-decided s t v true true = refl
-decided s t v true false = refl
-decided s t v false off = refl
+decided : (guards : List Row) (s t : List ℤ) (v : ℕ) (on off : Bool) → cond on (cond off (stay (RunsOff v) s) (record { answer = Moved; state = t })) (stay (NotEnabled (firstFailing guards s)) s)
+    ≡ outcome guards (cond on (cond off (Outcome.RunsOff v) (Outcome.Moved t)) Outcome.NotEnabled) s
+decided guards s t v true true = refl
+decided guards s t v true false = refl
+decided guards s t v false off = refl
 
 module _ (p : Program) (us : List ℕ) (i k : ℕ) (s : List ℤ) (l : length s ≡ length (p .ranges)) (few : length (p .ranges) ≤ 8) (ok : ActionOk (length (p .ranges)) (actionOf p k)) where
   abbrev gs : List Range
@@ -50,10 +51,11 @@ module _ (p : Program) (us : List ℕ) (i k : ℕ) (s : List ℤ) (l : length s 
   same-ranges : take (length s) (sets zeroRanges 0 gs) ≡ gs
   same-ranges = rw l (front-stored 8 zeroRange gs few)
 
-  pub same-guards : allHold (take (length (a .guards)) (sets zeroRows 0 (a .guards))) (padded s) ≡ enabled a s
-  same-guards = ap (λ (rs : List Row). allHold rs (padded s)) (front-stored 14 zeroRow (a .guards) (omega (arith, ok .guards .few))) ∙ all-padded (a .guards) s (8 - length s)
+  pub same-guards : firstFailing (take (length (a .guards)) (sets zeroRows 0 (a .guards))) (padded s) ≡ firstFailing (a .guards) s
+  same-guards =
+      ap (λ (rs : List Row). firstFailing rs (padded s)) (front-stored 14 zeroRow (a .guards) (omega (arith, ok .guards .few))) ∙ failing-padded (a .guards) s (8 - length s)
 
-  pub tried-is : tried (begun (got p us i) k s) s ≡ outcome (step p k s) s
+  pub tried-is : tried (begun (got p us i) k s) s ≡ outcome (a .guards) (step p k s) s
   tried-is =
       let same : ltb (lowestOff gs t) (length s) ≡ ltb (lowestOff gs t) (length gs) = ap (ltb (lowestOff gs t)) l in
-      rw (same-guards, same-ranges, new-state, same) (decided s t (lowestOff gs t) (enabled a s) (ltb (lowestOff gs t) (length gs)))
+      rw (same-guards, none-fails (a .guards) s, same-ranges, new-state, same) (decided (a .guards) s t (lowestOff gs t) (enabled a s) (ltb (lowestOff gs t) (length gs)))

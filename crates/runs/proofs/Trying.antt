@@ -18,7 +18,7 @@ use Rattle.rows.specs.declared.Row.{Row}
 use Rattle.rows.specs.declared.Range.{Range}
 use Rattle.rows.specs.Rows.{dot, rowValue, zeroRange}
 use Rattle.rows.specs.Bounds.{small, maxState, SmallRange, smallRanges}
-use Rattle.runs.specs.Runs.{onRange, lowestOff, allHold}
+use Rattle.runs.specs.Runs.{onRange, lowestOff}
 
 -- ---- values on their ranges
 pub first-on : (b : Bool) {n m : ℕ} → suc n ≤ cond b (suc m) 0 → (b ≡ true) × (n ≤ m)
@@ -73,8 +73,3 @@ dot-padded (c ∷ cs) (x ∷ xs) n = ap (λ (z : ℤ). c *ℤ x +ℤ z) (dot-pad
 
 pub value-padded : (r : Row) (xs : List ℤ) (n : ℕ) → rowValue r (xs ++ replicate n (pos 0)) ≡ rowValue r xs
 value-padded r xs n = ap (λ (z : ℤ). z +ℤ r .constant) (dot-padded (r .coef) xs n)
-
-pub all-padded : (rs : List Row) (xs : List ℤ) (n : ℕ) → allHold rs (xs ++ replicate n (pos 0)) ≡ allHold rs xs
-unfolding allHold
-all-padded [] xs n = refl
-all-padded (r ∷ rs) xs n = rw (value-padded r xs n, all-padded rs xs n) refl

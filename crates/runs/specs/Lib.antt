@@ -1,3 +1,4 @@
 pub mod Runs
+pub mod Guards
 pub mod Calls
 pub mod Values

@@ -4,16 +4,21 @@
 -- SmallRows — every row's numbers are small enough to compute with
 -- notBegun, begun — what trying an action begins with, on arrays
 -- Good      — its numbers are small enough to compute with
+-- lacking   — the first of its guard rows that fails
+-- Fits      — a record of 32-bit numbers has room for it
 -- tried     — what trying it does
 -- rowIf     — a row, where a test holds
 -- premiseRows — the rows of a set's literals, of some predicates from number i on
 use mathlib.Core.Bool.{Bool, cond}
 use mathlib.Core.List.{List, [], _∷_, _++_, map}
-use Prim.Native.Nat.{ℕ, suc, _+_, _-_, _≤_}
+use Prim.Native.Nat.{ℕ, suc, _+_, _-_, _≤_, _<_}
 use lib.Dec.{ltb}
 use lib.IntN.{ℤ, pos}
+use lib.Signed.{leZ}
 use lib.ListN.{length, getD, take, replicate}
 use lib.Seq.{sets}
+use mir.Syntax.{w32}
+use mir.Val.{SFits}
 use Rattle.words.specs.LiteralSets.{has}
 use Rattle.words.specs.declared.Refusal.{Refusal}
 use Rattle.rows.specs.declared.Row.{Row}
@@ -26,8 +31,10 @@ use Rattle.actions.specs.NewRows.{keepRows, assigned}
 use Rattle.programs.specs.declared.Status.the-variants.{Ready, Failed}
 use Rattle.programs.specs.Images.{zeroRanges}
 use Rattle.runs.specs.declared.Begun.{Begun}
+use Rattle.runs.specs.declared.Failing.{Failing}
 use Rattle.runs.specs.declared.Stepped.the-variants.{Moved, NotEnabled, RunsOff}
-use Rattle.runs.specs.Runs.{allHold, lowestOff, actionOf}
+use Rattle.runs.specs.Runs.{lowestOff, actionOf}
+use Rattle.runs.specs.Guards.{firstFailing}
 use Rattle.runs.specs.Calls.{Stepping, stay}
 
 abbrev pub padded : List ℤ → List ℤ
@@ -60,13 +67,20 @@ pub record Good (b : Begun) : Type 0 where
   pub old : small maxState (b .old)
   pub ranges : smallRanges (b .ranges)
 
+-- the first of its guard rows that fails
+abbrev pub lacking : Begun → Failing
+lacking b = firstFailing (take (b .guards) (b .guard)) (b .old)
+
+-- one of eight rows, and a value of 32 bits
+abbrev pub Fits : Failing → Type 0
+Fits f = (f .row < 8) × SFits w32 (f .value)
+
 -- what trying it does: the same as `step`, on arrays
 abbrev pub tried : Begun → List ℤ → Stepping
 tried b s =
     let t = take (length s) (map (λ r. rowValue r (b .old)) (b .rows)) in
     let v = lowestOff (take (length s) (b .ranges)) t in
-    cond (allHold (take (b .guards) (b .guard)) (b .old))
-    (cond (ltb v (length s)) (stay (RunsOff v) s) (record { answer = Moved; state = t })) (stay NotEnabled s)
+    cond (leZ (pos 0) (lacking b .value)) (cond (ltb v (length s)) (stay (RunsOff v) s) (record { answer = Moved; state = t })) (stay (NotEnabled (lacking b)) s)
 
 abbrev pub rowIf : Bool → Row → List Row
 rowIf b r = cond b (r ∷ []) []

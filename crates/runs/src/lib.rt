@@ -8,7 +8,8 @@ ghost use mir.Syntax.{w32};
 ghost use mir.Val.{SFits};
 ghost use Rattle.rows.specs.Rows.{rowValue};
 ghost use Rattle.rows.specs.Bounds.{small, Small, maxState};
-ghost use Rattle.runs.specs.Runs.{onRange, lowestOff, allHold};
+ghost use Rattle.runs.specs.Runs.{onRange, lowestOff};
+ghost use Rattle.runs.specs.Guards.{firstFailing, Guarded};
 ghost use Rattle.programs.specs.Calls.{read};
 ghost use Rattle.runs.specs.Calls.{ready, stepCall};
 ghost use Rattle.runs.specs.Values.{padded, SmallRows, notBegun, begun, Good, tried};
@@ -17,10 +18,17 @@ use rows::Range;
 use rows::Row;
 use words::Refusal;
 
+// The first of some rows that fails, and its value; where all hold, the number past the last one, and 0.
+pub struct Failing {
+    pub row: usize,
+    pub value: i64,
+}
+
 // What Step answers.
 pub enum Stepped {
     Moved,
-    NotEnabled,
+    // The first guard row that fails.
+    NotEnabled(Failing),
     // The lowest variable whose new value is off its range.
     RunsOff(usize),
     Refused(Refusal),
@@ -72,21 +80,21 @@ fn lowest_off(ranges: [Range; 8], n: usize, x: [i64; 8]) -> usize
     v
 }
 
-// Do the first n rows hold?
-pub fn all_hold(rows: [Row; 14], n: usize, x: [i64; 8]) -> bool
+// The first of the first n rows that fails.
+pub fn first_failing(rows: [Row; 14], n: usize, x: [i64; 8]) -> Failing
     requires { ⌜ (n ≤ 14) × SmallRows rows × small maxState x ⌝ }
-    ensures { λ r. ⌜ r ≡ allHold (take n rows) x ⌝ }
+    ensures { λ r. ⌜ r ≡ firstFailing (take n rows) x ⌝ }
 {
     let mut k: usize = 0;
     while k < n {
         let row = rows[k];
-        let a = rows::value(row, x);
-        if a < 0 {
-            return false;
+        let value = rows::value(row, x);
+        if value < 0 {
+            return Failing { row: k, value };
         }
         k += 1;
     }
-    true
+    Failing { row: k, value: 0 }
 }
 
 // Some values with the value of a row at the old ones put in one place.
@@ -210,8 +218,9 @@ fn take_action(b: Begun, state: &mut [i32]) -> Stepped
     let guards = b.guards;
     let guard = b.guard;
     let old = b.old;
-    if !all_hold(guard, guards, old) {
-        return Stepped::NotEnabled;
+    let failing = first_failing(guard, guards, old);
+    if failing.value < 0 {
+        return Stepped::NotEnabled(failing);
     }
     let rows = b.rows;
     let new = values(rows, old);
@@ -228,7 +237,8 @@ fn take_action(b: Begun, state: &mut [i32]) -> Stepped
 // Step: action k of a program, taken on a lent state. Only `Moved` writes.
 pub fn step(words: &[u32], k: usize, state: &mut [i32]) -> Stepped
     ensures { λ r. ⌜ (r ≡ stepCall (now (words .entry)) k (now (state .entry)) .answer)
-        × (now (state .exit) ≡ stepCall (now (words .entry)) k (now (state .entry)) .state) ⌝ }
+        × (now (state .exit) ≡ stepCall (now (words .entry)) k (now (state .entry)) .state)
+        × Guarded (ready (read (now (words .entry))) k (now (state .entry))) k (now (state .entry)) r ⌝ }
 {
     let begun = begin(words, k, &state[..]);
     let status = begun.status;

@@ -3,8 +3,6 @@
 // Each vector has one line on standard output. Input that breaks off inside a vector ends the run there.
 ghost use Prim.Native.Nat.{_≤_};
 ghost use lib.ListN.{length};
-ghost use mir.Syntax.{w32};
-ghost use mir.Val.{SFits};
 use programs::Checked;
 use programs::Counts;
 use runs::Stepped;
@@ -75,20 +73,22 @@ fn fill(state: &mut [i32], words: &[u32])
     }
 }
 
+fn long(x: i32) -> i64 {
+    x as i64
+}
+
 // A number without its sign.
-fn magnitude(x: i64) -> u64
-    requires { ⌜ SFits w32 x ⌝ }
-{
-    if x < 0 { (0 - x) as u64 } else { x as u64 }
+fn magnitude(x: i64) -> u64 {
+    if x < 0 { (-1 - x) as u64 + 1 } else { x as u64 }
 }
 
 // A signed number after a space.
-fn signed_number(x: i32) {
+fn signed_number(x: i64) {
     io::write_all(1, b" ");
     if x < 0 {
         io::write_all(1, b"-");
     }
-    io::print_decimal(1, magnitude(x as i64));
+    io::print_decimal(1, magnitude(x));
 }
 
 // The values of a state at exit.
@@ -96,7 +96,7 @@ fn left(state: &[i32]) {
     io::write_all(1, b" LEFT");
     let mut i: usize = 0;
     while i < state.len() {
-        signed_number(state[i]);
+        signed_number(long(state[i]));
         i += 1;
     }
 }
@@ -106,8 +106,10 @@ fn stepped(s: Stepped) {
         Stepped::Moved => {
             io::write_all(1, b"MOVED");
         }
-        Stepped::NotEnabled => {
+        Stepped::NotEnabled(failing) => {
             io::write_all(1, b"NOT ENABLED");
+            number(failing.row);
+            signed_number(failing.value);
         }
         Stepped::RunsOff(v) => {
             io::write_all(1, b"RUNS OFF");

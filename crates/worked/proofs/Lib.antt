@@ -4,3 +4,4 @@ pub mod Table
 pub mod Sheets
 pub mod Line
 pub mod Racks
+pub mod Near

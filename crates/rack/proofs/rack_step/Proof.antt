@@ -4,6 +4,8 @@ use Rattle.runs.specs.Calls.{ready}
 use Rattle.runs.proofs.Answers.{both, Trial, trial, answered-refused, short, good}
 use Rattle.rack.specs.Rack.{rackStep}
 use Rattle.rack.proofs.Storing.{stored-is}
+use Rattle.runs.proofs.Guards.{told}
+use Rattle.rack.proofs.Runs.{rack-guarded}
 use borrow.Author.Needs.{needs}
 use Rattle.rack.proofs.rack_step.Statement.{statement}
 use Rattle.rack.proofs.rack_step.Tie as tie
@@ -32,7 +34,9 @@ same-length c = search needs
 returns : tie.Need-returns
 returns c =
     let f = c .before .before .before .before .before .before .args in
-    both (answered-refused rackStep (ready (read (f .words .now)) (f .k) (f .state .now)) (f .k) (f .state .now) (c .before .before .before .begin .ensures) (c .before .status .given .1))
+    let m = ready (read (f .words .now)) (f .k) (f .state .now) in
+    let e = both (answered-refused rackStep m (f .k) (f .state .now) (c .before .before .before .begin .ensures) (c .before .status .given .1)) in
+    told rackStep m (f .k) (f .state .now) (rack-guarded m (f .k) (f .state .now)) (e .0) (e .1)
 
 same-length-2 : tie.Need-same-length-2
 same-length-2 c = search needs
@@ -41,8 +45,9 @@ returns-2 : tie.Need-returns-2
 returns-2 c =
     let q = c .before .before .before in
     let f = q .before .before .before .before .before .args in
+    let m = ready (read (f .words .now)) (f .k) (f .state .now) in
     let e = both (stored-is (f .words .now) (f .k) (f .state .now) (trial-at q)) in
-    (c .before .store-action .ensures .0 ∙ e .0, c .before .store-action .ensures .1 ∙ e .1)
+    told rackStep m (f .k) (f .state .now) (rack-guarded m (f .k) (f .state .now)) (c .before .store-action .ensures .0 ∙ e .0) (c .before .store-action .ensures .1 ∙ e .1)
 
 pub rack-step-spec : {M : Type 1} → statement M
 rack-step-spec = tie.close (tie.spec begin-requires enum-known-status enum-told store-action-requires same-length returns same-length-2 returns-2)

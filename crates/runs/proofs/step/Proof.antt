@@ -3,6 +3,7 @@ use Rattle.programs.specs.Calls.{read}
 use Rattle.runs.specs.Runs.{step}
 use Rattle.runs.specs.Calls.{ready}
 use Rattle.runs.proofs.Answers.{both, Trial, trial, answered-refused, short, good, tried-step}
+use Rattle.runs.proofs.Guards.{told, step-guarded}
 use borrow.Author.Needs.{needs}
 use Rattle.runs.proofs.step.Statement.{statement}
 use Rattle.runs.proofs.step.Tie as tie
@@ -31,7 +32,9 @@ same-length c = search needs
 returns : tie.Need-returns
 returns c =
     let f = c .before .before .before .before .before .before .args in
-    both (answered-refused step (ready (read (f .words .now)) (f .k) (f .state .now)) (f .k) (f .state .now) (c .before .before .before .begin .ensures) (c .before .status .given .1))
+    let m = ready (read (f .words .now)) (f .k) (f .state .now) in
+    let e = both (answered-refused step m (f .k) (f .state .now) (c .before .before .before .begin .ensures) (c .before .status .given .1)) in
+    told step m (f .k) (f .state .now) (step-guarded m (f .k) (f .state .now)) (e .0) (e .1)
 
 same-length-2 : tie.Need-same-length-2
 same-length-2 c = search needs
@@ -40,8 +43,9 @@ returns-2 : tie.Need-returns-2
 returns-2 c =
     let q = c .before .before .before in
     let f = q .before .before .before .before .before .args in
+    let m = ready (read (f .words .now)) (f .k) (f .state .now) in
     let e = both (tried-step (f .words .now) (f .k) (f .state .now) (trial-at q)) in
-    (c .before .take-action .ensures .0 ∙ e .0, c .before .take-action .ensures .1 ∙ e .1)
+    told step m (f .k) (f .state .now) (step-guarded m (f .k) (f .state .now)) (c .before .take-action .ensures .0 ∙ e .0) (c .before .take-action .ensures .1 ∙ e .1)
 
 pub step-spec : {M : Type 1} → statement M
 step-spec = tie.close (tie.spec begin-requires enum-known-status enum-told take-action-requires same-length returns same-length-2 returns-2)

@@ -20,11 +20,14 @@ write-all-requires c κs = search needs
 loop-holds : tie.Need-loop-holds Inv-loop μ-loop
 loop-holds c = search needs
 
-mul-signed-number : tie.Need-mul-signed-number Inv-loop μ-loop
-mul-signed-number c = search needs
+mul-long : tie.Need-mul-long Inv-loop μ-loop
+mul-long c = search needs
 
-shared-slice-copy-out-signed-number : tie.Need-shared-slice-copy-out-signed-number Inv-loop μ-loop
-shared-slice-copy-out-signed-number c = search needs
+shared-slice-copy-out-long : tie.Need-shared-slice-copy-out-long Inv-loop μ-loop
+shared-slice-copy-out-long c = search needs
+
+long-requires : tie.Need-long-requires Inv-loop μ-loop
+long-requires c κs = search needs
 
 signed-number-requires : tie.Need-signed-number-requires Inv-loop μ-loop
 signed-number-requires c κs = search needs
@@ -50,8 +53,9 @@ left-spec =
     slice-aggregate-write-all
     write-all-requires
     loop-holds
-    mul-signed-number
-    shared-slice-copy-out-signed-number
+    mul-long
+    shared-slice-copy-out-long
+    long-requires
     signed-number-requires
     add-i
     loop-less

@@ -1,22 +1,21 @@
-use mir.Syntax.{w64}
-use mir.Val.{SFits, toZ, ofZ}
-use mir.Facts.{toZ-ofZ}
-use Rattle.rows.specs.Rows.{rowValue}
-use Rattle.rows.specs.Bounds.{noRow}
-use Rattle.runs.proofs.Loops.{below-fails, above-holds}
 use mathlib.Core.Path.{_≡_, refl, _∙_}
 use Prim.Native.Nat.{_-_, _<_, _≤_}
 use native.Mathlib.Omega.{arith}
 use lib.ListN.{length, take, drop, getD}
 use lib.Seq.{length-take-le, getD-take}
-use Rattle.runs.specs.Runs.{allHold}
-use Rattle.runs.proofs.Loops.{all-on, all-stop, all-end}
+use mir.Syntax.{w64}
+use mir.Val.{SFits, toZ, ofZ}
+use mir.Facts.{toZ-ofZ}
+use Rattle.rows.specs.Rows.{rowValue}
+use Rattle.rows.specs.Bounds.{noRow}
+use Rattle.runs.specs.Guards.{firstFailing}
+use Rattle.runs.proofs.Guards.{past, past-none, below-fails, above-holds, failing-on, failing-stop, failing-end}
 use borrow.Author.Needs.{needs}
-use Rattle.runs.proofs.all_hold.Statement.{statement}
-use Rattle.runs.proofs.all_hold.Tie as tie
+use Rattle.runs.proofs.first_failing.Statement.{statement}
+use Rattle.runs.proofs.first_failing.Tie as tie
 
 abbrev Inv-loop : tie.InvT-loop
-Inv-loop n x rows k₀ k = (k ≤ n) × (allHold (drop k (take n rows)) x ≡ allHold (take n rows) x)
+Inv-loop n x rows k₀ k = (k ≤ n) × (past k (firstFailing (drop k (take n rows)) x) ≡ firstFailing (take n rows) x)
 
 abbrev μ-loop : tie.MeasureT-loop
 μ-loop n x rows k₀ k = n - k
@@ -34,7 +33,7 @@ value-is : (c : tie.After-value Inv-loop μ-loop) → toZ w64 (ofZ w64 (c .value
 value-is c = let f : SFits w64 (c .value .result) = search needs in toZ-ofZ f ∙ c .value .ensures
 
 loop-holds : tie.Need-loop-holds Inv-loop μ-loop
-loop-holds c = (omega arith, refl)
+loop-holds c = (omega arith, past-none (take (c .args .n) (c .args .t1)) (c .args .x))
 
 mul-row : tie.Need-mul-row Inv-loop μ-loop
 mul-row c = search needs
@@ -48,7 +47,12 @@ value-requires c κs = (c .before .before .before .pre .1 (c .before .before .lo
 returns : tie.Need-returns Inv-loop μ-loop
 returns c =
     let q = c .before .before .before .before in
-    all-stop (take (q .before .args .n) (q .before .args .t1)) (q .before .args .x) (q .loop .k) (inside (c .before .before .before)) (q .loop .inv .1) (rw (row-is (c .before .before .before)) (below-fails (rowValue (getD (q .before .args .t1) (q .loop .k) noRow) (q .before .args .x)) (rw (value-is (c .before)) at (c .if1 .taken))))
+    let k = q .loop .k in
+    let rs = take (q .before .args .n) (q .before .args .t1) in
+    let x = q .before .args .x in
+    let row = row-is (c .before .before .before) in
+    let fails = below-fails (rowValue (getD (q .before .args .t1) k noRow) x) (rw (value-is (c .before)) at (c .if1 .taken)) in
+    rw (value-is (c .before), ← row) (failing-stop rs x k (inside (c .before .before .before)) (q .loop .inv .1) (rw row fails))
 
 add-k : tie.Need-add-k Inv-loop μ-loop
 add-k c = search needs
@@ -59,13 +63,13 @@ loop-less c = search needs
 loop-again : tie.Need-loop-again Inv-loop μ-loop
 loop-again c =
     let q = c .before .before .before .before in
-    (omega arith, all-on (take (q .before .args .n) (q .before .args .t1)) (q .before .args .x) (q .loop .k) (inside (c .before .before .before)) (q .loop .inv .1) (rw (row-is (c .before .before .before)) (above-holds (rowValue (getD (q .before .args .t1) (q .loop .k) noRow) (q .before .args .x)) (rw (value-is (c .before)) at (c .if1 .left)))))
+    (omega arith, failing-on (take (q .before .args .n) (q .before .args .t1)) (q .before .args .x) (q .loop .k) (inside (c .before .before .before)) (q .loop .inv .1) (rw (row-is (c .before .before .before)) (above-holds (rowValue (getD (q .before .args .t1) (q .loop .k) noRow) (q .before .args .x)) (rw (value-is (c .before)) at (c .if1 .left)))))
 
 returns-2 : tie.Need-returns-2 Inv-loop μ-loop
-returns-2 c = all-end (take (c .before .before .args .n) (c .before .before .args .t1)) (c .before .before .args .x) (c .before .loop .k) (rw (length-of (c .before .before)) (omega arith)) (c .before .loop .inv .1)
+returns-2 c = failing-end (take (c .before .before .args .n) (c .before .before .args .t1)) (c .before .before .args .x) (c .before .loop .k) (rw (length-of (c .before .before)) (omega arith)) (c .before .loop .inv .1)
 
-pub all-hold-spec : {M : Type 1} → statement M
-all-hold-spec =
+pub first-failing-spec : {M : Type 1} → statement M
+first-failing-spec =
     tie.close
     (tie.spec
     Inv-loop
