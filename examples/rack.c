@@ -3,8 +3,9 @@
  *
  *     rack shows/incident.words 5 -- 0
  *
- * The first line says whether the show is safe; then there is a line for each action, up to the first at which the two differ. The exit status: 0 the
- * rack's values are the exact ones; 1 they are not; 3 the show, an action or the values are refused, or the file is cut or too long; 2 trouble.
+ * The first line says whether the show is safe; then there is a line for each action, up to the first at which the two differ; of one that is not enabled
+ * it says how near it was, "guard row 0 lacks 5". The exit status: 0 the rack's values are the exact ones; 1 they are not; 3 the show, an action or the
+ * values are refused, or the file is cut or too long; 2 trouble.
  */
 #include <errno.h>
 #include <stdio.h>
@@ -110,7 +111,7 @@ static void print(const char *who, BnvStep s, const int32_t *state, size_t n)
     else if (s.answer == BNV_RUNS_OFF)
         printf("runs off at variable %zu,", s.variable);
     else
-        printf("is not enabled,");
+        printf("is not enabled (guard row %u lacks %lld),", s.row, -(long long)s.row_value);
     for (size_t v = 0; v < n; v++)
         printf(" %d", (int)state[v]);
 }
@@ -130,7 +131,7 @@ static int press(size_t logic, size_t k, int32_t *exact, int32_t *rack, size_t n
     print("exact", e, exact, n);
     print("; rack", r, rack, n);
     printf("\n");
-    return e.answer == r.answer && memcmp(exact, rack, n * sizeof *rack) == 0 ? SAME : DIFFER;
+    return e.answer == r.answer && e.row == r.row && e.row_value == r.row_value && memcmp(exact, rack, n * sizeof *rack) == 0 ? SAME : DIFFER;
 }
 
 /* The actions, one after the other. */

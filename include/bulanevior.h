@@ -44,7 +44,7 @@ static_assert(sizeof(size_t) == 8, "64-bit numbers only");
 _Static_assert(sizeof(size_t) == 8, "64-bit numbers only");
 #endif
 
-#define BNV_VERSION "0.5.0"
+#define BNV_VERSION "0.6.0"
 
 /* ---- Words: the kind in bits 31 to 28, the payload in bits 27 to 0. */
 
@@ -147,6 +147,9 @@ BnvPart bnv_action_part(const uint32_t *words, size_t words_length, size_t k);
  * ---- Step: action k, tried on a state, one signed 32-bit value for each variable.
  *
  * Only BNV_MOVED writes the state: the new values. Refusals in the order 2 to 4, 8, 9, 10.
+ *
+ * BNV_NOT_ENABLED says how near it was: the first of the action's guard rows that fails, and the row's exact value at the state, which
+ * is below 0; the rows before it hold. A row worth -5 lacks 5.
  */
 
 #define BNV_NOT_ENABLED 1u
@@ -156,8 +159,10 @@ BnvPart bnv_action_part(const uint32_t *words, size_t words_length, size_t k);
 
 typedef struct {
     uint32_t answer;
-    size_t variable;  /* BNV_RUNS_OFF: the lowest variable whose new value is off its range */
-    uint32_t refusal; /* BNV_STEP_REFUSED */
+    uint32_t row;      /* BNV_NOT_ENABLED: the first guard row that fails */
+    size_t variable;   /* BNV_RUNS_OFF: the lowest variable whose new value is off its range */
+    uint32_t refusal;  /* BNV_STEP_REFUSED */
+    int32_t row_value; /* BNV_NOT_ENABLED: the row's value, below 0 */
     size_t value;
 } BnvStep;
 
@@ -166,7 +171,7 @@ BnvStep bnv_step(const uint32_t *words, size_t words_length, size_t k, int32_t *
 /*
  * ---- The rack's step: what a rack, which holds each variable in sixteen bits, does with action k.
  *
- * Guards are worked out exactly. The new values are worked out in sixteen bits: coefficients and constants are cut to them, products and
+ * Guards are worked out exactly, and BNV_NOT_ENABLED says what bnv_step says. The new values are worked out in sixteen bits: coefficients and constants are cut to them, products and
  * sums wrap, and the result is read as two's complement. BNV_MOVED writes these values, also where bnv_step answers BNV_RUNS_OFF; they
  * may be off their ranges, and then the next call refuses them. The answer is never BNV_RUNS_OFF. Refusals are those of bnv_step, in
  * its order, and leave the state.

@@ -152,14 +152,14 @@ static void step(void)
     static const uint32_t below[] = {0x100003E8, 0x40000000, 0x50000000, 0x60000001, 0x70000000, 0x2FFFFFFB, 0x30000001, 0xF0000000};
     int32_t state[] = {400, 77};
     BnvStep s = bnv_step(fade, LOGIC, 0, state, 1);
-    CHECK(s.answer == BNV_MOVED && s.refusal == 0 && state[0] == 395 && state[1] == 77);
+    CHECK(s.answer == BNV_MOVED && s.refusal == 0 && s.row == 0 && s.row_value == 0 && state[0] == 395 && state[1] == 77);
     state[0] = 4;
     s = bnv_step(fade, LOGIC, 0, state, 1);
-    CHECK(s.answer == BNV_NOT_ENABLED && state[0] == 4);
+    CHECK(s.answer == BNV_NOT_ENABLED && s.row == 0 && s.row_value == -1 && s.variable == 0 && s.refusal == 0 && s.value == 0 && state[0] == 4);
     s = bnv_step(below, 8, 0, state, 1);
-    CHECK(s.answer == BNV_RUNS_OFF && s.variable == 0 && state[0] == 4);
+    CHECK(s.answer == BNV_RUNS_OFF && s.variable == 0 && s.row == 0 && s.row_value == 0 && state[0] == 4);
     s = bnv_step(fade, LOGIC, 7, state, 1);
-    CHECK(s.answer == BNV_STEP_REFUSED && s.refusal == BNV_REFUSED_ABSENT && s.value == 7);
+    CHECK(s.answer == BNV_STEP_REFUSED && s.refusal == BNV_REFUSED_ABSENT && s.value == 7 && s.row == 0 && s.row_value == 0);
     s = bnv_step(fade, LOGIC, 0, state, 2);
     CHECK(s.answer == BNV_STEP_REFUSED && s.refusal == BNV_REFUSED_LENGTH && s.value == 2);
     s = bnv_step(fade, LOGIC, 0, NULL, 0);
@@ -167,6 +167,21 @@ static void step(void)
     state[0] = -1;
     s = bnv_step(fade, LOGIC, 0, state, 1);
     CHECK(s.answer == BNV_STEP_REFUSED && s.refusal == BNV_REFUSED_STATE && s.value == 0 && state[0] == -1);
+}
+
+/* How near it was, of both steps: three guard rows at 5, where x - 5 holds, x - 10 lacks 5 and x - 14 lacks 9; and the least value that a row can have. */
+static void near(void)
+{
+    static const uint32_t rows[] = {0x100003E8, 0x40000000, 0x50000000, 0x60000030, 0x2FFFFFFB, 0x30000001, 0x2FFFFFF6, 0x30000001, 0x2FFFFFF2, 0x30000001, 0xF0000000};
+    static const uint32_t least[] = {0x18001FFF, 0x18001FFF, 0x18001FFF, 0x18001FFF, 0x18001FFF, 0x18001FFF, 0x18001FFF, 0x18001FFF, 0x40000000, 0x50000000, 0x60000010,
+                                     0x2FF0BDC0, 0x300003E8, 0x310003E8, 0x320003E8, 0x330003E8, 0x340003E8, 0x350003E8, 0x360003E8, 0x370003E8, 0xF0000000};
+    int32_t state[] = {5}, low[] = {-8192, -8192, -8192, -8192, -8192, -8192, -8192, -8192};
+    BnvStep s[] = {bnv_step(rows, 11, 0, state, 1), bnv_rack_step(rows, 11, 0, state, 1)};
+    BnvStep t[] = {bnv_step(least, 21, 0, low, 8), bnv_rack_step(least, 21, 0, low, 8)};
+    for (int i = 0; i < 2; i++) {
+        CHECK(s[i].answer == BNV_NOT_ENABLED && s[i].row == 1 && s[i].row_value == -5 && state[0] == 5);
+        CHECK(t[i].answer == BNV_NOT_ENABLED && t[i].row == 0 && t[i].row_value == -66536000 && low[0] == -8192 && low[7] == -8192);
+    }
 }
 
 /* The incident: a macro takes 10 off a level of 5. And 4 and 5 times 8,191, which is 73,719 and in sixteen bits 8,183. */
@@ -188,7 +203,7 @@ static void rack_step(void)
     CHECK(s.answer == BNV_MOVED && state[0] == 395);
     state[0] = 4;
     s = bnv_rack_step(fade, LOGIC, 0, state, 1);
-    CHECK(s.answer == BNV_NOT_ENABLED && s.refusal == 0 && state[0] == 4);
+    CHECK(s.answer == BNV_NOT_ENABLED && s.row == 0 && s.row_value == -1 && s.refusal == 0 && state[0] == 4);
     s = bnv_rack_step(fade, LOGIC - 1, 0, state, 1);
     CHECK(s.answer == BNV_STEP_REFUSED && s.refusal == BNV_REFUSED_WORD && s.value == LOGIC - 1 && state[0] == 4);
     s = bnv_rack_step(fade, LOGIC, 7, state, 1);
@@ -389,7 +404,7 @@ static size_t taken(void (*part)(void))
 
 int main(void)
 {
-    void (*parts[])(void) = {kinds, finding_fields, check, action_part, step, rack_step, ask, judge, judge_refused, findings_refused, findings, show_refused, show};
+    void (*parts[])(void) = {kinds, finding_fields, check, action_part, step, near, rack_step, ask, judge, judge_refused, findings_refused, findings, show_refused, show};
     size_t most = 0, last = 0;
     for (size_t i = 0; i < sizeof parts / sizeof *parts; i++) {
         last = taken(parts[i]);

@@ -109,12 +109,17 @@ the rack's values are not the exact ones" shows/incident.words 5 -- 0 0
 presses 0 "safe
 action 0: exact moves, 15; rack moves, 15
 action 0: exact moves, 5; rack moves, 5
-action 0: exact is not enabled, 5; rack is not enabled, 5
+action 0: exact is not enabled (guard row 0 lacks 5), 5; rack is not enabled (guard row 0 lacks 5), 5
 the rack's values are the exact ones" shows/incident_mended.words 25 -- 0 0 0
 presses 0 "safe
 action 0: exact moves, 5 8191; rack moves, 5 8191
-action 0: exact is not enabled, 5 8191; rack is not enabled, 5 8191
+action 0: exact is not enabled (guard row 0 lacks 8186), 5 8191; rack is not enabled (guard row 0 lacks 8186), 5 8191
 the rack's values are the exact ones" shows/difference.words 8191 8191 -- 0 0
+# Three guard rows at 5: x - 5 holds, x - 10 lacks 5, x - 14 lacks 9.
+words "$room/near" 100003E8 40000000 50000000 60000030 2FFFFFFB 30000001 2FFFFFF6 30000001 2FFFFFF2 30000001 F0000000
+presses 0 "safe
+action 0: exact is not enabled (guard row 1 lacks 5), 5; rack is not enabled (guard row 1 lacks 5), 5
+the rack's values are the exact ones" "$room/near" 5 -- 0
 words "$room/sum" 10001FFF 10001FFF 40000000 50000000 60000001 70000000 20000000 30000004 31000005 F0000000
 presses 1 "not safe
 action 0: exact runs off at variable 0, 8191 8191; rack moves, 8183 8191

@@ -16,6 +16,9 @@ HOLDS(sizeof(bnv_judge(NULL, 0, NULL, 0, NULL, 0, NULL, 0)) == sizeof(BnvJudge) 
 HOLDS(sizeof(bnv_show(NULL, 0, NULL, 0, NULL, 0, NULL, 0)) == sizeof(BnvShow) && sizeof(BnvShow) == 96);
 HOLDS(sizeof(bnv_findings(NULL, 0, NULL, 0, NULL, 0, NULL, 0)) == sizeof(BnvFindings) && sizeof(BnvFindings) == 24);
 HOLDS(sizeof(bnv_successor(NULL, 0, 0, 0, 0, 0)) == sizeof(BnvSuccessor) && sizeof(BnvSuccessor) == 32);
+/* The places that BnvStep's fields had in 0.5.0, and the two that stand where there was padding. */
+HOLDS(offsetof(BnvStep, variable) == 8 && offsetof(BnvStep, refusal) == 16 && offsetof(BnvStep, value) == 24);
+HOLDS(offsetof(BnvStep, row) == 4 && offsetof(BnvStep, row_value) == 20);
 HOLDS(offsetof(BnvCheck, refusal) == 4 && offsetof(BnvCheck, value) == 8 && offsetof(BnvShow, judged) == 24);
 
 /* Something to compile. */

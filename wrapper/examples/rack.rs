@@ -4,8 +4,9 @@
 //!     rack shows/incident.words 5 -- 0
 //!
 //! The first line says whether the show is safe; then there is a line for each action, up to the first at which the two
-//! differ. The exit status: 0 the rack's values are the exact ones; 1 they are not; 3 the show, an action or the values are
-//! refused, or the file is cut or too long; 2 trouble.
+//! differ; of one that is not enabled it says how near it was, "guard row 0 lacks 5". The exit status: 0 the rack's values
+//! are the exact ones; 1 they are not; 3 the show, an action or the values are refused, or the file is cut or too long; 2
+//! trouble.
 use bulanevior::*;
 use std::fs::File;
 use std::io::{Read, Write};
@@ -56,15 +57,15 @@ fn values_text(state: &[i32]) -> String {
 fn exact_text(answer: Step) -> String {
     match answer {
         Step::Moved => "exact moves,".to_string(),
-        Step::NotEnabled => "exact is not enabled,".to_string(),
+        Step::NotEnabled(failing) => format!("exact is not enabled ({failing}),"),
         Step::RunsOff(v) => format!("exact runs off at variable {v},"),
     }
 }
 
-fn rack_text(answer: Rack) -> &'static str {
+fn rack_text(answer: Rack) -> String {
     match answer {
-        Rack::Moved => "rack moves,",
-        Rack::NotEnabled => "rack is not enabled,",
+        Rack::Moved => "rack moves,".to_string(),
+        Rack::NotEnabled(failing) => format!("rack is not enabled ({failing}),"),
     }
 }
 
@@ -77,15 +78,18 @@ fn press(
 ) -> Result<(String, bool), Ended> {
     let e = step(logic, k, exact).map_err(refused)?;
     let r = rack_step(logic, k, rack).map_err(refused)?;
-    let moved = matches!((e, r), (Step::Moved, Rack::Moved));
-    let stayed = matches!((e, r), (Step::NotEnabled, Rack::NotEnabled));
+    let same = match (e, r) {
+        (Step::Moved, Rack::Moved) => true,
+        (Step::NotEnabled(exact), Rack::NotEnabled(rack)) => exact == rack,
+        _ => false,
+    };
     let (exact_values, rack_values) = (values_text(exact), values_text(rack));
     let said = format!(
         "action {k}: {}{exact_values}; {}{rack_values}\n",
         exact_text(e),
         rack_text(r)
     );
-    Ok((said, (moved || stayed) && exact == rack))
+    Ok((said, same && exact == rack))
 }
 
 /// The lines of the actions, and the exit status.

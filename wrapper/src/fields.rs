@@ -33,14 +33,42 @@ fn of_check() {
 fn of_step() {
     let record = |answer| BnvStep {
         answer,
+        row: 32,
         variable: 31,
         refusal: REFUSED.0,
+        row_value: -33,
         value: REFUSED.1,
     };
-    assert_eq!(stepped(record(BNV_NOT_ENABLED)), Ok(Step::NotEnabled));
+    let near = Failing {
+        row: 32,
+        value: -33,
+    };
+    assert_eq!(stepped(record(BNV_NOT_ENABLED)), Ok(Step::NotEnabled(near)));
+    assert_eq!(racked(record(BNV_NOT_ENABLED)), Ok(Rack::NotEnabled(near)));
+    assert_eq!(near.to_string(), "guard row 32 lacks 33");
     assert_eq!(stepped(record(BNV_RUNS_OFF)), Ok(Step::RunsOff(31)));
     assert_eq!(stepped(record(BNV_STEP_REFUSED)), Err(ABSENT));
+    assert_eq!(racked(record(BNV_STEP_REFUSED)), Err(ABSENT));
     assert_eq!(stepped(record(BNV_MOVED)), Ok(Step::Moved));
+    assert_eq!(racked(record(BNV_MOVED)), Ok(Rack::Moved));
+}
+
+/// A guard row that is worth 0 or more does not fail: such a record is of another version.
+#[test]
+fn of_a_row_that_does_not_fail() {
+    for row_value in [0, 1, i32::MAX] {
+        let record = BnvStep {
+            answer: BNV_NOT_ENABLED,
+            row: 0,
+            variable: 0,
+            refusal: 0,
+            row_value,
+            value: 0,
+        };
+        let none = Refusal::Mismatch(BNV_NOT_ENABLED);
+        assert_eq!(stepped(record), Err(none));
+        assert_eq!(racked(record), Err(none));
+    }
 }
 
 #[test]

@@ -209,12 +209,32 @@ pub fn action_part(words: &[u32], k: usize) -> &[u32] {
         .unwrap_or(&[])
 }
 
+/// How near an action was that is not enabled: the first of its guard rows that fails, counted from 0, and the row's value at
+/// the state, which is below 0.
+#[derive(Clone, Copy, Debug, PartialEq, Eq)]
+pub struct Failing {
+    pub row: usize,
+    pub value: i32,
+}
+
+/// "guard row 1 lacks 5": the row is worth -5.
+impl fmt::Display for Failing {
+    fn fmt(&self, f: &mut fmt::Formatter) -> fmt::Result {
+        write!(
+            f,
+            "guard row {} lacks {}",
+            self.row,
+            self.value.unsigned_abs()
+        )
+    }
+}
+
 /// What an action does to a state.
 #[derive(Clone, Copy, Debug, PartialEq, Eq)]
 pub enum Step {
     /// The new values have been written.
     Moved,
-    NotEnabled,
+    NotEnabled(Failing),
     /// The lowest variable whose new value is off its range.
     RunsOff(usize),
 }
@@ -224,9 +244,20 @@ pub fn step(words: &[u32], k: usize, state: &mut [i32]) -> Result<Step, Refusal>
     stepped(raw::step(words, k, state))
 }
 
+/// The guard row that a record names; the library's rows that fail are below 0.
+fn failing(s: raw::BnvStep) -> Result<Failing, Refusal> {
+    if s.row_value >= 0 {
+        return Err(Refusal::Mismatch(s.answer));
+    }
+    Ok(Failing {
+        row: s.row as usize,
+        value: s.row_value,
+    })
+}
+
 fn stepped(s: raw::BnvStep) -> Result<Step, Refusal> {
     match s.answer {
-        raw::BNV_NOT_ENABLED => Ok(Step::NotEnabled),
+        raw::BNV_NOT_ENABLED => failing(s).map(Step::NotEnabled),
         raw::BNV_RUNS_OFF => Ok(Step::RunsOff(s.variable)),
         raw::BNV_STEP_REFUSED => Err(Refusal::of(s.refusal, s.value)),
         raw::BNV_MOVED => Ok(Step::Moved),
@@ -239,7 +270,7 @@ fn stepped(s: raw::BnvStep) -> Result<Step, Refusal> {
 pub enum Rack {
     /// What the rack stores has been written: the new values modulo 65,536, in two's complement. They may be off their ranges.
     Moved,
-    NotEnabled,
+    NotEnabled(Failing),
 }
 
 /// The rack's step: action k, tried on a state. Guards are worked out exactly; sums and products wrap in sixteen bits.
@@ -252,7 +283,7 @@ pub fn rack_step(words: &[u32], k: usize, state: &mut [i32]) -> Result<Rack, Ref
 
 fn racked(s: raw::BnvStep) -> Result<Rack, Refusal> {
     match s.answer {
-        raw::BNV_NOT_ENABLED => Ok(Rack::NotEnabled),
+        raw::BNV_NOT_ENABLED => failing(s).map(Rack::NotEnabled),
         raw::BNV_STEP_REFUSED => Err(Refusal::of(s.refusal, s.value)),
         raw::BNV_MOVED => Ok(Rack::Moved),
         other => Err(Refusal::Mismatch(other)),
@@ -626,16 +657,20 @@ mod tests {
         tried(&[BNV_NOT_ENABLED, BNV_RUNS_OFF, BNV_MOVED], |answer| {
             stepped(BnvStep {
                 answer,
+                row: 0,
                 variable: 0,
                 refusal: 0,
+                row_value: -1,
                 value: 0,
             })
         });
         tried(&[BNV_NOT_ENABLED, BNV_MOVED], |answer| {
             racked(BnvStep {
                 answer,
+                row: 0,
                 variable: 0,
                 refusal: 0,
+                row_value: -1,
                 value: 0,
             })
         });

@@ -75,8 +75,10 @@ pub const BNV_MOVED: u32 = 4;
 #[derive(Clone, Copy, Debug, PartialEq, Eq)]
 pub struct BnvStep {
     pub answer: u32,
+    pub row: u32,
     pub variable: usize,
     pub refusal: u32,
+    pub row_value: i32,
     pub value: usize,
 }
 

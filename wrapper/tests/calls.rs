@@ -40,7 +40,8 @@ fn steps() {
     assert_eq!(step(logic, 1, &mut state), Ok(Step::Moved));
     assert_eq!(state, [405]);
     state = [1000];
-    assert_eq!(step(logic, 1, &mut state), Ok(Step::NotEnabled));
+    let lacks_5 = Failing { row: 0, value: -5 };
+    assert_eq!(step(logic, 1, &mut state), Ok(Step::NotEnabled(lacks_5)));
     // Adds 5 without a guard.
     let free = [
         0x100003E8, 0x40000000, 0x50000000, 0x60000001, 0x70000000, 0x20000005, 0x30000001,
@@ -76,11 +77,28 @@ fn steps_as_the_rack() {
     assert_eq!(both, [8183, 8191]);
     let logic = &FADE[..LOGIC];
     state = [4];
-    assert_eq!(rack_step(logic, 0, &mut state), Ok(Rack::NotEnabled));
+    let lacks_1 = Failing { row: 0, value: -1 };
+    assert_eq!(
+        rack_step(logic, 0, &mut state),
+        Ok(Rack::NotEnabled(lacks_1))
+    );
     assert_eq!(rack_step(logic, 2, &mut state), Err(Refusal::Absent(2)));
     assert_eq!(rack_step(logic, 0, &mut []), Err(Refusal::Length(0)));
     assert_eq!(rack_step(&logic[1..], 0, &mut []), Err(Refusal::Word(0)));
     assert_eq!(state, [4]);
+}
+
+/// Three guard rows at 5: x - 5 holds, x - 10 lacks 5, x - 14 lacks 9.
+#[test]
+fn says_how_near() {
+    let rows = [
+        0x100003E8, 0x40000000, 0x50000000, 0x60000030, 0x2FFFFFFB, 0x30000001, 0x2FFFFFF6,
+        0x30000001, 0x2FFFFFF2, 0x30000001, 0xF0000000,
+    ];
+    let near = Failing { row: 1, value: -5 };
+    assert_eq!(step(&rows, 0, &mut [5]), Ok(Step::NotEnabled(near)));
+    assert_eq!(rack_step(&rows, 0, &mut [5]), Ok(Rack::NotEnabled(near)));
+    assert_eq!(near.to_string(), "guard row 1 lacks 5");
 }
 
 #[test]
