@@ -24,7 +24,8 @@ shows=("$room/show" "$CARGO_TARGET_DIR/release/examples/show")
 racks=("$room/rack" "$CARGO_TARGET_DIR/release/examples/rack")
 
 "$room/calls"
-(cd wrapper && cargo test --release --offline --quiet >"$room/tests" 2>&1) || { cat "$room/tests"; exit 1; }
+# Not for release: sums that overflow are found.
+(cd wrapper && cargo test --offline --quiet >"$room/tests" 2>&1) || { cat "$room/tests"; exit 1; }
 
 fail() { # LINE
     echo "$1"

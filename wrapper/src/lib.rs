@@ -497,7 +497,8 @@ pub fn listed(list: &[u32]) -> impl Iterator<Item = Finding> + '_ {
 /// Where a node was first found, by its ORIGIN word in a graph list that `judge`, `show` or `findings` has filled: its parent and
 /// the action. None for node 0, and where the list has no such word.
 pub fn origin(graph: &[u32], actions: usize, node: usize) -> Option<(usize, usize)> {
-    let place = node.checked_mul(HEADER_WORDS + actions)?.checked_add(1)?;
+    let width = HEADER_WORDS.checked_add(actions)?;
+    let place = node.checked_mul(width)?.checked_add(1)?;
     let word = *graph.get(place)?;
     let (parent, action) = (payload(word) >> 4 & 511, word & 15);
     let there = kind(word) == raw::BNV_ORIGIN && payload(word) != 0x1FFF;
