@@ -7,7 +7,6 @@ ghost use lib.IntN.{pos};
 ghost use lib.Signed.{_<ℤ_};
 ghost use lib.ListN.{length, take, drop};
 ghost use Rattle.programs.specs.Calls.{read, check, actionPart, partPlace};
-ghost use Rattle.runs.specs.declared.Failing.{Failing};
 ghost use Rattle.runs.specs.declared.Stepped.the-variants.{NotEnabled};
 ghost use Rattle.runs.specs.Calls.{stepCall};
 ghost use Rattle.runs.specs.Values.{Fits};
@@ -24,6 +23,7 @@ use ask::Asked;
 use findings::Listed;
 use judge::Judged;
 use programs::Checked;
+use runs::Failing;
 use runs::Stepped;
 use show::Shown;
 use view::Viewed;
@@ -123,6 +123,23 @@ pub struct BnvStep {
     pub value: usize,
 }
 
+// The guard row that fails, in 32 bits.
+fn not_enabled(failing: Failing) -> BnvStep
+    requires { ⌜ Fits failing ⌝ }
+    ensures { λ r. ⌜ r ≡ stepOf (NotEnabled failing) ⌝ }
+{
+    let row = failing.row as u32;
+    let row_value = failing.value as i32;
+    BnvStep {
+        answer: BNV_NOT_ENABLED,
+        row,
+        variable: 0,
+        refusal: 0,
+        row_value,
+        value: 0,
+    }
+}
+
 fn step_of(s: Stepped) -> BnvStep
     requires { ⌜ ((f : Failing) → s ≡ NotEnabled f → Fits f) ⌝ }
     ensures { λ r. ⌜ r ≡ stepOf s ⌝ }
@@ -136,14 +153,7 @@ fn step_of(s: Stepped) -> BnvStep
             row_value: 0,
             value: 0,
         },
-        Stepped::NotEnabled(failing) => BnvStep {
-            answer: BNV_NOT_ENABLED,
-            row: failing.row as u32,
-            variable: 0,
-            refusal: 0,
-            row_value: failing.value as i32,
-            value: 0,
-        },
+        Stepped::NotEnabled(failing) => not_enabled(failing),
         Stepped::RunsOff(v) => BnvStep {
             answer: BNV_RUNS_OFF,
             row: 0,
