@@ -23,10 +23,12 @@ use Rattle.runs.specs.Runs.{allHold, enabled, actionOf}
 abbrev pub later : Failing → Failing
 later f = record { row = suc (f .row); value = f .value }
 
+-- A row fails where its value is below 0. Where every row holds the value is 0: the yes of the row test.
 unfoldable pub firstFailing : List Row → List ℤ → Failing
 firstFailing [] s = record { row = 0; value = pos 0 }
 firstFailing (r ∷ rs) s = cond (holds r s) (later (firstFailing rs s)) (record { row = 0; value = rowValue r s })
 
+-- The rows are some that hold, then the one that fails, which is counted from 0, and the others; its value is the row's exact one at the state.
 pub record Near (rows : List Row) (s : List ℤ) (f : Failing) : Type 0 where
   pub before : List Row
   pub fails : Row

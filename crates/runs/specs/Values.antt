@@ -80,7 +80,8 @@ abbrev pub tried : Begun → List ℤ → Stepping
 tried b s =
     let t = take (length s) (map (λ r. rowValue r (b .old)) (b .rows)) in
     let v = lowestOff (take (length s) (b .ranges)) t in
-    cond (leZ (pos 0) (lacking b .value)) (cond (ltb v (length s)) (stay (RunsOff v) s) (record { answer = Moved; state = t })) (stay (NotEnabled (lacking b)) s)
+    cond (leZ (pos 0) (lacking b .value))
+    (cond (ltb v (length s)) (stay (RunsOff v) s) (record { answer = Moved; state = t })) (stay (NotEnabled (lacking b)) s)
 
 abbrev pub rowIf : Bool → Row → List Row
 rowIf b r = cond b (r ∷ []) []
