@@ -3,7 +3,7 @@ use mathlib.Core.Path.{_≡_, refl, subst}
 use mathlib.Core.List.{List, [], _∷_, _++_, append-nil}
 use Prim.Native.Nat.{ℕ, _<_}
 use native.Mathlib.Omega.{arith}
-use lib.IntN.{ℤ, pos}
+use lib.IntN.{ℤ}
 use lib.ListN.{length, length-append}
 use mir.Syntax.{w32}
 use mir.Val.{SFits}
@@ -23,7 +23,7 @@ use Rattle.runs.specs.Runs.{Inside, actionOf}
 use Rattle.runs.specs.Guards.{Near, Guarded}
 use Rattle.runs.specs.Calls.{ready}
 use Rattle.runs.specs.Values.{Fits}
-use Rattle.runs.proofs.Answers.{Known, ready-known, each-at}
+use Rattle.runs.proofs.Answers.{ready-known, each-at}
 use Rattle.runs.proofs.Sizes.{row-read, state-small}
 
 middle : (P : Row → Type 0) (xs : List Row) (y : Row) (ys : List Row) → Each P (xs ++ (y ∷ ys)) → P y
