@@ -171,10 +171,10 @@ BnvStep bnv_step(const uint32_t *words, size_t words_length, size_t k, int32_t *
 /*
  * ---- The rack's step: what a rack, which holds each variable in sixteen bits, does with action k.
  *
- * Guards are worked out exactly, and BNV_NOT_ENABLED says what bnv_step says. The new values are worked out in sixteen bits: coefficients and constants are cut to them, products and
- * sums wrap, and the result is read as two's complement. BNV_MOVED writes these values, also where bnv_step answers BNV_RUNS_OFF; they
- * may be off their ranges, and then the next call refuses them. The answer is never BNV_RUNS_OFF. Refusals are those of bnv_step, in
- * its order, and leave the state.
+ * Guards are worked out exactly, and BNV_NOT_ENABLED says what bnv_step says. The new values are worked out in sixteen bits: coefficients
+ * and constants are cut to them, products and sums wrap, and the result is read as two's complement. BNV_MOVED writes these values, also
+ * where bnv_step answers BNV_RUNS_OFF; they may be off their ranges, and then the next call refuses them. The answer is never
+ * BNV_RUNS_OFF. Refusals are those of bnv_step, in its order, and leave the state.
  *
  * Where bnv_step does not answer BNV_RUNS_OFF, bnv_rack_step answers and writes the same. So after BNV_SAFE the rack's values are the
  * exact ones, from every start state and along every list of actions.

@@ -371,7 +371,7 @@ group("SETS predicates")
 
 NO_PRED = [VAR(0, 9), INIT(0), PRED(0)]                               # SETS stands at 3
 ONE_PRED = [VAR(0, 9), INIT(0), PRED(1), ROW(0)]                      # SETS stands at 4
-EIGHT_ROWS = [VAR(0, 9), INIT(0), PRED(14)] + [ROW(0)] * 14             # SETS stands at 17
+FOURTEEN = [VAR(0, 9), INIT(0), PRED(14)] + [ROW(0)] * 14             # SETS stands at 17
 ALL = range(14)
 
 check("no predicate: the empty combination", NO_PRED + [SETS([], []), END()], "COUNTS 1 0 0 0 1")
@@ -390,15 +390,15 @@ check("one predicate: 0 true, 1 false", ONE_PRED + [SETS([1], [0]), END()], "REF
 check("equal combinations", ONE_PRED + [SETS([], [0]), SETS([], [0]), SETS([], []), SETS([], []), END()], "COUNTS 1 0 1 0 4")
 check("second combination: 1 true", ONE_PRED + [SETS([], [0]), SETS([], [1]), END()], "REFUSED 4 AT 5")
 
-check("14 predicates: 13 false", EIGHT_ROWS + [SETS([13], []), END()], "COUNTS 1 0 14 0 1")
-check("14 predicates: 13 true", EIGHT_ROWS + [SETS([], [13]), END()], "COUNTS 1 0 14 0 1")
-check("14 predicates: all false", EIGHT_ROWS + [SETS(ALL, []), END()], "COUNTS 1 0 14 0 1")
-check("14 predicates: all true", EIGHT_ROWS + [SETS([], ALL), END()], "COUNTS 1 0 14 0 1")
-check("14 predicates: even false, odd true", EIGHT_ROWS + [SETS(ALL[0::2], ALL[1::2]), END()], "COUNTS 1 0 14 0 1")
-check("14 predicates: 0 in both", EIGHT_ROWS + [SETS([0], [0]), END()], "REFUSED 4 AT 17")
-check("14 predicates: 13 in both", EIGHT_ROWS + [SETS([13], [13]), END()], "REFUSED 4 AT 17")
-check("14 predicates: 7 in both among others", EIGHT_ROWS + [SETS([0, 7], [1, 7]), END()], "REFUSED 4 AT 17")
-check("14 predicates: all in both", EIGHT_ROWS + [SETS(ALL, ALL), END()], "REFUSED 4 AT 17")
+check("14 predicates: 13 false", FOURTEEN + [SETS([13], []), END()], "COUNTS 1 0 14 0 1")
+check("14 predicates: 13 true", FOURTEEN + [SETS([], [13]), END()], "COUNTS 1 0 14 0 1")
+check("14 predicates: all false", FOURTEEN + [SETS(ALL, []), END()], "COUNTS 1 0 14 0 1")
+check("14 predicates: all true", FOURTEEN + [SETS([], ALL), END()], "COUNTS 1 0 14 0 1")
+check("14 predicates: even false, odd true", FOURTEEN + [SETS(ALL[0::2], ALL[1::2]), END()], "COUNTS 1 0 14 0 1")
+check("14 predicates: 0 in both", FOURTEEN + [SETS([0], [0]), END()], "REFUSED 4 AT 17")
+check("14 predicates: 13 in both", FOURTEEN + [SETS([13], [13]), END()], "REFUSED 4 AT 17")
+check("14 predicates: 7 in both among others", FOURTEEN + [SETS([0, 7], [1, 7]), END()], "REFUSED 4 AT 17")
+check("14 predicates: all in both", FOURTEEN + [SETS(ALL, ALL), END()], "REFUSED 4 AT 17")
 check("13 predicates: 13 false", [VAR(0, 9), INIT(0), PRED(13)] + [ROW(0)] * 13 + [SETS([13], []), END()], "REFUSED 4 AT 16")
 check("13 predicates: 13 true", [VAR(0, 9), INIT(0), PRED(13)] + [ROW(0)] * 13 + [SETS([], [13]), END()], "REFUSED 4 AT 16")
 

@@ -19,6 +19,11 @@ pub const DUE: &[&str] = &[
     "rack, a guard past sixteen bits",
     "runs, the rack as exact to the end", "runs that run off, the rack goes on elsewhere", "runs, the rack refused on its way",
     "safe, rack's runs", "safe, rack's moves", "safe, rack's moves past sixteen bits", "safe, rack's runs from all start states",
+    "near, the only guard row", "near, row 0 of several", "near, row 1 of several", "near, rows 2 to 6", "near, row 7",
+    "near, a later row fails too", "near, a later row lacks more", "near, a row before it worth 0",
+    "near, lacks 1", "near, lacks more than sixteen bits hold",
+    "near, another value after the assignments", "near, none would fail after the assignments",
+    "enabled, no guard row", "enabled, a guard row worth 0", "enabled, eight guard rows", "runs, not enabled on the way",
     "ask accepted", "ask not accepted", "ask refusal 2", "ask refusal 3", "ask refusal 4", "ask refusal 5",
     "ask refusal 6", "ask refusal 8",
     "judge safe", "judge forbid", "judge run-off low", "judge run-off high",
@@ -55,6 +60,13 @@ impl Counts {
     pub fn add(&mut self, name: &'static str, n: u64) {
         debug_assert!(DUE.contains(&name), "{name}");
         *self.0.entry(name).or_default() += n;
+    }
+
+    /// Those of the names that occurred.
+    pub fn note_seen(&mut self, names: &[&'static str], seen: &[bool]) {
+        for (name, _) in names.iter().zip(seen).filter(|(_, seen)| **seen) {
+            self.note(name);
+        }
     }
 
     pub fn of(&self, name: &str) -> u64 {

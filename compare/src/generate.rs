@@ -1,6 +1,7 @@
 //! Makes inputs: logics with lemmas, damaged ones, and noise.
 
 use crate::dice::Dice;
+use crate::guarded::guarded;
 use crate::prover::prove;
 use crate::wide::wide;
 use independent::shows::*;
@@ -441,7 +442,8 @@ fn shaped(dice: &Dice) -> (Text, Vec<Vec<u32>>) {
         (t, lemmas)
     };
     match dice.below(100) {
-        0..=35 => boxed(true),
+        0..=27 => boxed(true),
+        28..=35 => proved(guarded(dice)),
         36..=43 => proved(wide(dice)),
         44..=54 => boxed(false),
         55..=65 => proved(rig(dice)),

@@ -6,7 +6,10 @@ mod counts;
 mod dice;
 mod findings;
 mod generate;
+mod guarded;
 mod keeping;
+mod near;
+mod nears;
 mod open;
 mod other;
 mod prover;
@@ -127,7 +130,9 @@ fn main() -> ExitCode {
         let made = timed(seed, |compare| run(compare, inputs, seed));
         // On this thread: by default the other sweeps take longer than the inputs.
         let racks = timed(seed, racks::sweep);
-        [(made, "inputs"), (sweeps.join().expect("the sweeps panicked"), "sweeps"), (racks, "the rack's sweeps")]
+        let nears = timed(seed, nears::sweep);
+        let sweeps = sweeps.join().expect("the sweeps panicked");
+        [(made, "inputs"), (sweeps, "sweeps"), (racks, "the rack's sweeps"), (nears, "the guards' sweeps")]
     });
     let mut seldom = Vec::new();
     let least = if inputs < 100_000 { inputs / 1000 } else { 100 };

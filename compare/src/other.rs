@@ -7,7 +7,7 @@ use independent::{Asked, Judged, Listed, Racked, Stepped};
 /// Records of zeros, which are no answers.
 const NO_CHECK: BnvCheck =
     BnvCheck { answer: 0, refusal: 0, value: 0, variables: 0, start_rows: 0, predicates: 0, actions: 0, forbidden: 0 };
-const NO_STEP: BnvStep = BnvStep { answer: 0, variable: 0, refusal: 0, value: 0 };
+const NO_STEP: BnvStep = BnvStep { answer: 0, row: 0, variable: 0, refusal: 0, row_value: 0, value: 0 };
 const NO_ASK: BnvAsk = BnvAsk { answer: 0, refusal: 0, value: 0 };
 const NO_JUDGE: BnvJudge =
     BnvJudge { verdict: 0, node: 0, place: 0, variable: 0, high: 0, nodes: 0, edges: 0, refusal: 0, value: 0 };
@@ -34,10 +34,16 @@ pub fn action_part(words: &[u32], k: usize) -> BnvPart {
     BnvPart { start: (part.as_ptr() as usize - words.as_ptr() as usize) / 4, length: part.len() }
 }
 
+/// A value that does not fit is a panic, and not another one.
+pub fn not_enabled(row: usize, value: i64) -> BnvStep {
+    let row_value = value.try_into().expect("a guard row's value fits in 32 bits");
+    BnvStep { answer: BNV_NOT_ENABLED, row: row as u32, row_value, ..NO_STEP }
+}
+
 pub fn step(words: &[u32], k: usize, state: &mut [i32]) -> BnvStep {
     match independent::step(words, k, state) {
         Stepped::Moved => BnvStep { answer: BNV_MOVED, ..NO_STEP },
-        Stepped::NotEnabled => BnvStep { answer: BNV_NOT_ENABLED, ..NO_STEP },
+        Stepped::NotEnabled { row, value } => not_enabled(row, value),
         Stepped::RunsOff(variable) => BnvStep { answer: BNV_RUNS_OFF, variable, ..NO_STEP },
         Stepped::Refused(r) => BnvStep { answer: BNV_STEP_REFUSED, refusal: r.number, value: r.value as usize, ..NO_STEP },
     }
@@ -46,7 +52,7 @@ pub fn step(words: &[u32], k: usize, state: &mut [i32]) -> BnvStep {
 pub fn rack_step(words: &[u32], k: usize, state: &mut [i32]) -> BnvStep {
     match independent::rack_step(words, k, state) {
         Racked::Moved => BnvStep { answer: BNV_MOVED, ..NO_STEP },
-        Racked::NotEnabled => BnvStep { answer: BNV_NOT_ENABLED, ..NO_STEP },
+        Racked::NotEnabled { row, value } => not_enabled(row, value),
         Racked::Refused(r) => BnvStep { answer: BNV_STEP_REFUSED, refusal: r.number, value: r.value as usize, ..NO_STEP },
     }
 }

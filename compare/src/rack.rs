@@ -4,6 +4,7 @@
 use crate::calls::{hexadecimal, Compare, Difference};
 use crate::counts::rack_name;
 use crate::generate::Input;
+use crate::near;
 use crate::other;
 use bulanevior::raw::{self as library, BnvStep, BNV_MOVED, BNV_NOT_ENABLED, BNV_RUNS_OFF, BNV_STEP_REFUSED};
 use independent::program::{Program, Range, Row};
@@ -137,9 +138,10 @@ impl Compare {
         }
         let program = independent::program::read(&input.program).expect("a program whose action was tried");
         let seen = held(&program, k, state, &rack).map_err(|fault| wrong(input, k, state, &fault))?;
-        for (name, _) in NAMES.iter().zip(seen).filter(|(_, seen)| *seen) {
-            self.counts.note(name);
-        }
+        self.counts.note_seen(&NAMES, &seen);
+        let near = |tried: &Tried| near::held(&program, k, state, &tried.answer).map_err(|fault| wrong(input, k, state, &fault));
+        near(&rack)?;
+        self.counts.note_seen(&near::NAMES, &near(step)?);
         match off(&program, &rack.left) {
             Some(variable) => self.refused_next(input, k, &rack.left, variable),
             None => Ok(()),
@@ -148,7 +150,7 @@ impl Compare {
 
     /// A state that the rack left off a range is refused by both calls, with the lowest such variable.
     fn refused_next(&mut self, input: &Input, k: usize, state: &[i32], variable: usize) -> Result<(), Difference> {
-        let due = BnvStep { answer: BNV_STEP_REFUSED, variable: 0, refusal: 10, value: variable };
+        let due = BnvStep { answer: BNV_STEP_REFUSED, row: 0, variable: 0, refusal: 10, row_value: 0, value: variable };
         for call in [&STEP, &RACK] {
             let next = self.tried(input, call, k, state)?;
             if next.answer != due || next.left != state {

@@ -5,7 +5,7 @@ use crate::calls::{Compare, Difference};
 use crate::counts::DUE;
 use crate::generate::Input;
 use crate::rack::{wrapped, wrong, RACK};
-use bulanevior::raw::{BNV_MOVED, BNV_NOT_ENABLED};
+use bulanevior::raw::{BnvStep, BNV_MOVED, BNV_NOT_ENABLED};
 use independent::shows::{act, itself, row, RowText, Text};
 use independent::words::MAX_VARIABLES;
 
@@ -74,14 +74,15 @@ pub fn sweep(compare: &mut Compare) -> Result<u64, Difference> {
 }
 
 impl Racks<'_> {
-    /// The rack leaves these values; where the action is not enabled they are None.
-    fn expect(&mut self, input: &Input, state: &[i32], new: Option<Vec<i128>>) -> Result<(), Difference> {
+    /// The rack leaves these values, or a guard row is worth less than 0.
+    fn expect(&mut self, input: &Input, state: &[i32], new: Result<Vec<i128>, i128>) -> Result<(), Difference> {
         self.inputs += 1;
         let rack = self.compare.tried(input, &RACK, 0, state)?;
-        let answer = if new.is_some() { BNV_MOVED } else { BNV_NOT_ENABLED };
-        let due = new.unwrap_or_else(|| state.iter().map(|x| i128::from(*x)).collect());
-        if rack.answer.answer != answer || !rack.left.iter().map(|x| i128::from(*x)).eq(due.iter().copied()) {
-            return Err(wrong(input, 0, state, &format!("{due:?} is due, and the rack's step {rack:?}")));
+        let BnvStep { answer, row, row_value, .. } = rack.answer;
+        let due = (if new.is_ok() { BNV_MOVED } else { BNV_NOT_ENABLED }, 0, *new.as_ref().err().unwrap_or(&0));
+        let left = new.unwrap_or_else(|_| state.iter().map(|x| i128::from(*x)).collect());
+        if (answer, row, i128::from(row_value)) != due || !rack.left.iter().map(|x| i128::from(*x)).eq(left.iter().copied()) {
+            return Err(wrong(input, 0, state, &format!("{due:?} with {left:?} is due, and the rack's step {rack:?}")));
         }
         Ok(())
     }
@@ -92,7 +93,7 @@ impl Racks<'_> {
         let mut state = vec![-1; all.len()];
         for x in values {
             state[0] = *x;
-            self.expect(&input, &state, Some(all.iter().map(|line| wrapped(at(line, *x))).collect()))?;
+            self.expect(&input, &state, Ok(all.iter().map(|line| wrapped(at(line, *x))).collect()))?;
         }
         for x in [values[0], values[values.len() - 1]] {
             state[0] = x;
@@ -140,7 +141,7 @@ impl Racks<'_> {
                     let value: i128 = terms.iter().zip(state).map(|((_, c), x)| i128::from(*c) * i128::from(x)).sum();
                     let mut new = state.map(i128::from).to_vec();
                     new[3] = wrapped(value + i128::from(k));
-                    self.expect(&input, &state, Some(new))?;
+                    self.expect(&input, &state, Ok(new))?;
                 }
             }
         }
@@ -153,7 +154,8 @@ impl Racks<'_> {
             let input = logic(1, &[text(&(c, k))], &[itself(0)]);
             let zero = (-k / c).clamp(LOW + 1, HIGH - 1);
             for x in [LOW, zero - 1, zero, zero + 1, -1, 0, 1, HIGH] {
-                self.expect(&input, &[x], (at(&(c, k), x) >= 0).then(|| vec![i128::from(x)]))?;
+                let value = at(&(c, k), x);
+                self.expect(&input, &[x], if value < 0 { Err(value) } else { Ok(vec![i128::from(x)]) })?;
             }
             self.compare.step(&input, 0, &[zero])?;
         }

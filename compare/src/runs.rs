@@ -4,6 +4,7 @@
 use crate::calls::{differ, Compare, Difference};
 use crate::dice::Dice;
 use crate::generate::Input;
+use crate::near;
 use crate::rack::{exact, off, past, untrue, Call, RACK, STEP};
 use crate::states;
 use bulanevior::raw::{BnvJudge, BnvStep, BNV_MOVED, BNV_NOT_ENABLED, BNV_RUNS_OFF, BNV_SAFE, BNV_STEP_REFUSED};
@@ -21,8 +22,8 @@ const SOME: usize = 2;
 /// What the library left, call by call, and the answer that was neither moved nor not enabled.
 struct Driven {
     states: Vec<Vec<i32>>,
-    /// For each action but that one, whether it moved.
-    moved: Vec<bool>,
+    /// For each action but that one.
+    answers: Vec<BnvStep>,
     end: Option<BnvStep>,
 }
 
@@ -94,7 +95,7 @@ fn starts(program: &Program, ends: &[(i32, i32)], dice: &Dice) -> (Vec<Vec<i32>>
 
 impl Compare {
     fn drive(&mut self, call: &Call, input: &Input, actions: &[usize], state: &[i32]) -> Driven {
-        let mut driven = Driven { states: vec![state.to_vec()], moved: Vec::new(), end: None };
+        let mut driven = Driven { states: vec![state.to_vec()], answers: Vec::new(), end: None };
         let mut now = state.to_vec();
         for k in actions {
             let answer = (call.library)(&input.program, *k, &mut now);
@@ -103,7 +104,7 @@ impl Compare {
                 driven.end = Some(answer);
                 break;
             }
-            driven.moved.push(answer.answer == BNV_MOVED);
+            driven.answers.push(answer);
             driven.states.push(now.clone());
         }
         driven
@@ -127,13 +128,27 @@ impl Compare {
             return Err(differ(input, &name("rack's"), &(rack.states, rack.end), &(states, end)));
         }
         self.same(&exact, &rack).map_err(|fault| untrue(input, &format!("{}: {fault}", name("the"))))?;
+        for driven in [&exact, &rack] {
+            self.near(program, actions, driven).map_err(|fault| untrue(input, &format!("{}: {fault}", name("the"))))?;
+        }
         Ok(Run { exact, rack })
+    }
+
+    /// Each answer on the way says how near it was.
+    fn near(&mut self, program: &Program, actions: &[usize], driven: &Driven) -> Result<(), String> {
+        for ((k, state), answer) in actions.iter().zip(&driven.states).zip(&driven.answers) {
+            near::held(program, *k, state, answer)?;
+            if answer.answer == BNV_NOT_ENABLED {
+                self.counts.note("runs, not enabled on the way");
+            }
+        }
+        Ok(())
     }
 
     /// The rack's run has the exact run's states, and no others where that does not run off.
     fn same(&mut self, exact: &Driven, rack: &Driven) -> Result<(), String> {
         let states = exact.states.len();
-        let begins = rack.states.starts_with(&exact.states) && rack.moved.starts_with(&exact.moved);
+        let begins = rack.states.starts_with(&exact.states) && rack.answers.starts_with(&exact.answers);
         if !begins || (exact.end.is_none() && rack.states.len() != states) {
             return Err(format!("exact {:?}, the rack {:?}", exact.states, rack.states));
         }
@@ -180,8 +195,8 @@ impl Compare {
             return Err(untrue(input, &format!("safe, and the runs of {actions:?} from {state:?} end with {ends:?}")));
         }
         self.counts.note("safe, rack's runs");
-        let tries = actions.iter().zip(&run.rack.states).zip(&run.rack.moved);
-        for ((k, state), _) in tries.filter(|(_, moved)| **moved) {
+        let tries = actions.iter().zip(&run.rack.states).zip(&run.rack.answers);
+        for ((k, state), _) in tries.filter(|(_, answer)| answer.answer == BNV_MOVED) {
             self.counts.note("safe, rack's moves");
             if past(program, *k, state).contains(&true) {
                 self.counts.note("safe, rack's moves past sixteen bits");
