@@ -18,6 +18,7 @@ use Rattle.grammar.specs.WellFormed.{Each, RowOk, WellFormed}
 use Rattle.grammar.proofs.ProgramLaws.{accepted}
 use Rattle.programs.specs.Calls.{read}
 use Rattle.runs.specs.declared.Failing.{Failing}
+use Rattle.runs.specs.declared.Stepped.{Stepped}
 use Rattle.runs.specs.declared.Stepped.the-variants.{NotEnabled}
 use Rattle.runs.specs.Runs.{Inside, actionOf}
 use Rattle.runs.specs.Guards.{Near, Guarded}
@@ -42,9 +43,9 @@ near-fits p good k known s h {f} n =
     let few = rw (n .rows-are) at (ok .few) in
     (omega (arith, n .number, few, length-append (n .before) (n .fails ∷ n .after)), rw (n .value-is) (value-fits (n .fails) s row-ok state))
 
-pub guarded-fits : (ws : List ℕ) (k : ℕ) (s : List ℤ) {f : Failing} → Guarded (ready (read ws) k s) k s (NotEnabled f) → Fits f
-guarded-fits ws k s {f} g = go (ready (read ws) k s) refl g
+pub guarded-fits : (ws : List ℕ) (k : ℕ) (s : List ℤ) {a : Stepped} → Guarded (ready (read ws) k s) k s a → (f : Failing) → a ≡ NotEnabled f → Fits f
+guarded-fits ws k s {a} g f e = go (ready (read ws) k s) refl (subst (Guarded (ready (read ws) k s) k s) e g)
   where
     go : (m : Read Program) → ready (read ws) k s ≡ m → Guarded m k s (NotEnabled f) → Fits f
-    go (refused r) e h = let z : _≡_ {A = ℕ} 0 1 = cc h in absurd (omega arith)
-    go (got p us i) e h = let at = ready-known (read ws) k s e in near-fits p (accepted ws p us i (at .is-read) .good) k (at .known) s (at .inside) h
+    go (refused r) is h = let z : _≡_ {A = ℕ} 0 1 = cc h in absurd (omega arith)
+    go (got p us i) is h = let at = ready-known (read ws) k s is in near-fits p (accepted ws p us i (at .is-read) .good) k (at .known) s (at .inside) h

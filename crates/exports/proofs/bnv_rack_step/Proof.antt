@@ -1,6 +1,5 @@
-use mathlib.Core.Path.{sym, ap, subst, _∙_}
+use mathlib.Core.Path.{sym, ap, _∙_}
 use Rattle.programs.specs.Calls.{read}
-use Rattle.runs.specs.Guards.{Guarded}
 use Rattle.runs.specs.Calls.{ready}
 use Rattle.runs.proofs.Guards.{guarded-below}
 use Rattle.runs.proofs.NearSizes.{guarded-fits}
@@ -15,9 +14,7 @@ rack-step-requires : tie.Need-rack-step-requires
 rack-step-requires c κs = search needs
 
 step-of-requires : tie.Need-step-of-requires
-step-of-requires c κs =
-    let f = c .before .before .before .before .args in
-    λ g e. guarded-fits (f .words .now) (f .k) (f .state .now) (subst (Guarded (ready (read (f .words .now)) (f .k) (f .state .now)) (f .k) (f .state .now)) e (c .before .rack-step .ensures .2))
+step-of-requires c κs = let f = c .before .before .before .before .args in guarded-fits (f .words .now) (f .k) (f .state .now) (c .before .rack-step .ensures .2)
 
 same-length : tie.Need-same-length
 same-length c = search needs

@@ -1,6 +1,5 @@
-use mathlib.Core.Path.{ap, subst, _∙_}
+use mathlib.Core.Path.{ap, _∙_}
 use Rattle.programs.specs.Calls.{read}
-use Rattle.runs.specs.Guards.{Guarded}
 use Rattle.runs.specs.Calls.{ready}
 use Rattle.runs.proofs.Guards.{guarded-below}
 use Rattle.runs.proofs.NearSizes.{guarded-fits}
@@ -14,9 +13,7 @@ step-requires : tie.Need-step-requires
 step-requires c κs = search needs
 
 step-of-requires : tie.Need-step-of-requires
-step-of-requires c κs =
-    let f = c .before .before .before .before .args in
-    λ g e. guarded-fits (f .words .now) (f .k) (f .state .now) (subst (Guarded (ready (read (f .words .now)) (f .k) (f .state .now)) (f .k) (f .state .now)) e (c .before .step .ensures .2))
+step-of-requires c κs = let f = c .before .before .before .before .args in guarded-fits (f .words .now) (f .k) (f .state .now) (c .before .step .ensures .2)
 
 same-length : tie.Need-same-length
 same-length c = search needs
