@@ -29,7 +29,7 @@ static int trouble(const char *what)
 
 static int mismatch(uint32_t number)
 {
-    fprintf(stderr, "the library is of another version: %u is no answer\n", number);
+    fprintf(stderr, "the library is of another version: %u is no answer of this one\n", number);
     return TROUBLE;
 }
 
@@ -127,6 +127,9 @@ static int press(size_t logic, size_t k, int32_t *exact, int32_t *rack, size_t n
         return mismatch(e.answer);
     if (r.answer != BNV_MOVED && r.answer != BNV_NOT_ENABLED)
         return mismatch(r.answer);
+    /* An older library leaves what stood in the padding. */
+    if ((e.answer == BNV_NOT_ENABLED && e.row_value >= 0) || (r.answer == BNV_NOT_ENABLED && r.row_value >= 0))
+        return mismatch(BNV_NOT_ENABLED);
     printf("action %zu: ", k);
     print("exact", e, exact, n);
     print("; rack", r, rack, n);

@@ -34,7 +34,7 @@ static long load(const char *name)
 /* A number that is no answer: the library is of another version than the header. */
 static int mismatch(uint32_t number)
 {
-    fprintf(stderr, "the library is of another version: %u is no answer\n", number);
+    fprintf(stderr, "the library is of another version: %u is no answer of this one\n", number);
     return TROUBLE;
 }
 

@@ -24,7 +24,8 @@
  *  - Nothing is allocated, no state is kept between calls, and no file, clock or other device is touched. Calls with lists of their
  *    own may run at the same time.
  *
- * Lengths, counts, indices and places are 64-bit numbers, counted from 0. A field that an answer does not use is 0.
+ * Lengths, counts, indices and places are 64-bit numbers, and `row` of BnvStep one of 32 bits, counted from 0. A field that an answer
+ * does not use is 0.
  *
  * No answer is 0, in `answer` or in `verdict`: a record of zeros permits nothing. Begin with `BnvJudge j = {0};`, so that one which no
  * call has filled is such a record. Ask for the answer that permits (`== BNV_SAFE`), never for the absence of another; a number that

@@ -44,7 +44,7 @@ fn after(action: &Action, state: &[i32]) -> Vec<i32> {
     state.iter().enumerate().map(new).collect()
 }
 
-/// Which of NAMES occurred: where a row fails, and where none does.
+/// Which of NAMES occurred, where a row fails.
 fn lacking(values: &[i128], later: &[i128], (row, value): (usize, i128)) -> [bool; 12] {
     let rest = &values[row + 1..];
     [
@@ -63,6 +63,7 @@ fn lacking(values: &[i128], later: &[i128], (row, value): (usize, i128)) -> [boo
     ]
 }
 
+/// Where none does.
 fn enabled(values: &[i128]) -> [bool; 3] {
     [values.is_empty(), values.contains(&0), values.len() == 8]
 }

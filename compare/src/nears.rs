@@ -32,7 +32,7 @@ fn among(guards: &[RowText]) -> Input {
     let others: Vec<RowText> = (0..8 - guards.len() / 2).map(|i| row(-500 - i as i32, &[])).collect();
     // It would set every variable to 1, and its guards would be worth something else.
     let sets: Vec<(u32, RowText)> = (0..8).map(|v| (v, row(1, &[]))).collect();
-    let actions = vec![act(&others, &[]), act(guards, &sets), act(&others[1..], &[])];
+    let actions = vec![act(&others, &[]), act(guards, &sets), act(&others[3..], &[])];
     Input { program: Text { vars: vec![(LOW, HIGH); 8], actions, ..Text::default() }.words(), lemmas: Vec::new() }
 }
 

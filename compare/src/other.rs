@@ -34,10 +34,10 @@ pub fn action_part(words: &[u32], k: usize) -> BnvPart {
     BnvPart { start: (part.as_ptr() as usize - words.as_ptr() as usize) / 4, length: part.len() }
 }
 
-/// A value that does not fit is a panic, and not another one.
-pub fn not_enabled(row: usize, value: i64) -> BnvStep {
-    let row_value = value.try_into().expect("a guard row's value fits in 32 bits");
-    BnvStep { answer: BNV_NOT_ENABLED, row: row as u32, row_value, ..NO_STEP }
+fn not_enabled(row: usize, value: i64) -> BnvStep {
+    let row = row.try_into().expect("a guard row's number in 32 bits");
+    let row_value = value.try_into().expect("a guard row's value in 32 bits");
+    BnvStep { answer: BNV_NOT_ENABLED, row, row_value, ..NO_STEP }
 }
 
 pub fn step(words: &[u32], k: usize, state: &mut [i32]) -> BnvStep {

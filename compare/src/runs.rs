@@ -134,9 +134,10 @@ impl Compare {
         Ok(Run { exact, rack })
     }
 
-    /// Each answer on the way says how near it was.
+    /// Each answer on the way says how near it was, and so does a run-off at its end.
     fn near(&mut self, program: &Program, actions: &[usize], driven: &Driven) -> Result<(), String> {
-        for ((k, state), answer) in actions.iter().zip(&driven.states).zip(&driven.answers) {
+        let end = driven.end.iter().filter(|end| end.answer == BNV_RUNS_OFF);
+        for ((k, state), answer) in actions.iter().zip(&driven.states).zip(driven.answers.iter().chain(end)) {
             near::held(program, *k, state, answer)?;
             if answer.answer == BNV_NOT_ENABLED {
                 self.counts.note("runs, not enabled on the way");

@@ -85,8 +85,9 @@ impl Action {
     }
 
     /// "An action is enabled when all its guard rows hold; with no guard it always is": then there is none.
-    /// Request 5: "the number of the first guard row that fails and its value, which is below 0". "Guard rows
-    /// count from 0 within the action's guards." Each is worked out once, and none after the one that fails.
+    /// Request 5: "the number of the first guard row that fails and its value, which is below 0". "Everything
+    /// counts from 0", and the rows are the action's own. Each is worked out once, and none after the one that
+    /// fails.
     pub fn failing_guard(&self, state: &[i32]) -> Option<(usize, i64)> {
         self.guards.iter().map(|row| row.value(state)).enumerate().find(|(_, value)| *value < 0)
     }

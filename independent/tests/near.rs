@@ -187,8 +187,8 @@ fn nine_rows_and_more() {
     }
 }
 
-/// "Guard rows count from 0 within the action's guards": not with those of the start, the predicates, the
-/// actions before or the assignments. Action 1 has the guards x, x - 3 and 8 - x, action 2 has 2 - x.
+/// "Everything counts from 0", and the rows are the action's own: not with those of the start, the predicates,
+/// the actions before or the assignments. Action 1 has the guards x, x - 3 and 8 - x, action 2 has 2 - x.
 #[test]
 fn counted_within_the_action() {
     let t = Text {

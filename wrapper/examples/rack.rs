@@ -80,7 +80,7 @@ fn press(
     let r = rack_step(logic, k, rack).map_err(refused)?;
     let same = match (e, r) {
         (Step::Moved, Rack::Moved) => true,
-        (Step::NotEnabled(exact), Rack::NotEnabled(rack)) => exact == rack,
+        (Step::NotEnabled(a), Rack::NotEnabled(b)) => a == b,
         _ => false,
     };
     let (exact_values, rack_values) = (values_text(exact), values_text(rack));

@@ -72,8 +72,9 @@ pub enum Refusal {
     Sum(usize),
     /// The findings list is too short: how many words it needs.
     Findings(usize),
-    /// No refusal of the library: its answer, or its refusal, has a number that is none, which is given here. The library is
-    /// of another version than this crate. There is no verdict; say it loudly.
+    /// No refusal of the library: its answer, or its refusal, has a number that is none, or it answers not enabled and names
+    /// no guard row that fails. The number is given here. The library is of another version than this crate. There is no
+    /// verdict; say it loudly.
     Mismatch(u32),
 }
 
@@ -115,7 +116,7 @@ impl Refusal {
         }
     }
 
-    /// The value that is returned with it; of `Mismatch` the number that is none.
+    /// The value that is returned with it; of `Mismatch` the number that it gives.
     pub fn value(self) -> usize {
         match self {
             Refusal::Nodes => MOST_NODES,
@@ -164,7 +165,10 @@ impl fmt::Display for Refusal {
                 write!(f, "the findings list is too short, {n} words are needed")?
             }
             Refusal::Mismatch(n) => {
-                return write!(f, "the library is of another version: {n} is no answer")
+                return write!(
+                    f,
+                    "the library is of another version: {n} is no answer of this one"
+                )
             }
         }
         write!(f, " ({} AT {})", self.number(), self.value())
@@ -234,6 +238,7 @@ impl fmt::Display for Failing {
 pub enum Step {
     /// The new values have been written.
     Moved,
+    /// How near it was.
     NotEnabled(Failing),
     /// The lowest variable whose new value is off its range.
     RunsOff(usize),
@@ -244,7 +249,7 @@ pub fn step(words: &[u32], k: usize, state: &mut [i32]) -> Result<Step, Refusal>
     stepped(raw::step(words, k, state))
 }
 
-/// The guard row that a record names; the library's rows that fail are below 0.
+/// The guard row that a record names. One that is not below 0 comes from a library of another version.
 fn failing(s: raw::BnvStep) -> Result<Failing, Refusal> {
     if s.row_value >= 0 {
         return Err(Refusal::Mismatch(s.answer));
@@ -270,6 +275,7 @@ fn stepped(s: raw::BnvStep) -> Result<Step, Refusal> {
 pub enum Rack {
     /// What the rack stores has been written: the new values modulo 65,536, in two's complement. They may be off their ranges.
     Moved,
+    /// How near it was.
     NotEnabled(Failing),
 }
 

@@ -3,8 +3,9 @@
 --                                       Agrees with Judge's answer, and g at exit is Judge's                        crates/findings/src/lib.rt
 --   reader::row_at(words, at, vars)     where vars ≤ 8 and at ≤ length words: r has the row and where reading goes on, or the refusal, of
 --                                       row vars (drop at words) at, and of fed (begun vars at) (drop at words)     crates/reader/src/lib.rt
---   rack::rack_step(ws, k, s)           r and s at exit are those of rackCall ws k s; Guarded (ready (read ws) k s) k s r, of r here and of runs::step's  crates/rack, runs
---   exports::bnv_findings, _rack_step   the same, r as the records of numbers findingsOf and stepOf; the rack's answer is not 2; _step's too is 1 exactly where row_value is below 0  crates/exports
+--   rack::rack_step(ws, k, s)           r and s at exit are those of rackCall ws k s                                  crates/rack/src/lib.rt
+--   runs::step, rack::rack_step         Guarded (ready (read ws) k s) k s r                                           crates/runs/src/lib.rt, crates/rack/src/lib.rt
+--   exports::bnv_findings, _rack_step   the same, r as the records of numbers findingsOf and stepOf; the rack's answer is not 2; of both steps it is 1 exactly where row_value is below 0  crates/exports/src/lib.rt
 use mathlib.Core.{Path.{_≡_}, Bool.{true, false, cond}, Logic.{_⊎_, _↔_}, List.{List, [], _∷_, _++_, map, List·Memᴰ}}
 use Prim.Native.Nat.{ℕ, _^_, _≤_, _<_}
 use lib.{Dec.{eqb}, IntN.{ℤ, pos, negsuc, _+ℤ_, _*ℤ_}, Signed.{_≤ℤ_}, ListN.{length, getD}}

@@ -79,7 +79,7 @@ none-fails (r ∷ rs) s = pick (holds r s) refl (firstFailing rs s) (none-fails 
     pick false h f e = h
 
 -- and where one fails, it is the one that the sentence names
-pub near : (rs : List Row) (s : List ℤ) → allHold rs s ≡ false → Near rs s (firstFailing rs s)
+near : (rs : List Row) (s : List ℤ) → allHold rs s ≡ false → Near rs s (firstFailing rs s)
 unfolding firstFailing allHold
 near [] s h = false-true (sym h)
 near (r ∷ rs) s h = pick (holds r s) refl h (near rs s)

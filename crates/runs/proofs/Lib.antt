@@ -1,6 +1,6 @@
 pub mod Loops
-pub mod Guards
 pub mod Trying
+pub mod Guards
 pub mod Sizes
 pub mod NewValues
 pub mod Tried

@@ -28,7 +28,8 @@ unfoldable pub firstFailing : List Row → List ℤ → Failing
 firstFailing [] s = record { row = 0; value = pos 0 }
 firstFailing (r ∷ rs) s = cond (holds r s) (later (firstFailing rs s)) (record { row = 0; value = rowValue r s })
 
--- The rows are some that hold, then the one that fails, which is counted from 0, and the others; its value is the row's exact one at the state.
+-- The rows are some that hold, then the one that fails, whose number is how many stand before it, then the others; its value is the row's exact one at the
+-- state, and below 0.
 pub record Near (rows : List Row) (s : List ℤ) (f : Failing) : Type 0 where
   pub before : List Row
   pub fails : Row
@@ -39,7 +40,8 @@ pub record Near (rows : List Row) (s : List ℤ) (f : Failing) : Type 0 where
   pub value-is : f .value ≡ rowValue fails s
   pub below : f .value <ℤ pos 0
 
--- of a program that was read, its action k and a state, where nothing is refused
+-- Of action k of a program that is ready to be tried on a state: not enabled names the first guard row that fails, moved and runs off say that the action is
+-- enabled. Where something is refused, the answer is that refusal.
 abbrev pub Guarded : Read Program → ℕ → List ℤ → Stepped → Type 0
 Guarded (refused r) k s a = a ≡ Refused r
 Guarded (got p ws i) k s (NotEnabled f) = Near (actionOf p k .guards) s f

@@ -14,7 +14,7 @@ use Rattle.worked.specs.Shows.{fade, row2}
 
 -- 0 lacks 5
 exact-near : stepCall fade 0 (pos 0 ∷ []) ≡ stay (NotEnabled (record { row = 0; value = negsuc 4 })) (pos 0 ∷ [])
-unfolding program ranges rows end coefs row assignment sets action due one times many lowestOff allHold firstFailing newValue valuesFrom dot
+unfolding program ranges rows end coefs row assignment sets action due one times many lowestOff allHold firstFailing dot
 exact-near = refl
 
 rack-near : rackCall fade 0 (pos 0 ∷ []) ≡ stay (NotEnabled (record { row = 0; value = negsuc 4 })) (pos 0 ∷ [])

@@ -63,7 +63,11 @@ loop-less c = search needs
 loop-again : tie.Need-loop-again Inv-loop μ-loop
 loop-again c =
     let q = c .before .before .before .before in
-    (omega arith, failing-on (take (q .before .args .n) (q .before .args .t1)) (q .before .args .x) (q .loop .k) (inside (c .before .before .before)) (q .loop .inv .1) (rw (row-is (c .before .before .before)) (above-holds (rowValue (getD (q .before .args .t1) (q .loop .k) noRow) (q .before .args .x)) (rw (value-is (c .before)) at (c .if1 .left)))))
+    let k = q .loop .k in
+    let rs = take (q .before .args .n) (q .before .args .t1) in
+    let x = q .before .args .x in
+    let on = above-holds (rowValue (getD (q .before .args .t1) k noRow) x) (rw (value-is (c .before)) at (c .if1 .left)) in
+    (omega arith, failing-on rs x k (inside (c .before .before .before)) (q .loop .inv .1) (rw (row-is (c .before .before .before)) on))
 
 returns-2 : tie.Need-returns-2 Inv-loop μ-loop
 returns-2 c = failing-end (take (c .before .before .args .n) (c .before .before .args .t1)) (c .before .before .args .x) (c .before .loop .k) (rw (length-of (c .before .before)) (omega arith)) (c .before .loop .inv .1)
