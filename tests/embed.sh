@@ -98,6 +98,17 @@ printf '%s\n' '#define main shown' '#include "show.c"' '#undef main' \
 cc -std=c11 $strict -I"$PWD/include" -I"$PWD/examples" "$room/refusals.c" "$library" -o "$room/refusals"
 "$room/refusals" | diff tests/refusals.txt -
 
+# A library older than guard rows in the record: "not enabled" with what stood in the padding is trouble, of either step, and no comparison.
+printf '%s\n' '#include "bulanevior.h"' 'static BnvStep exact_said, rack_said;' \
+    '#define bnv_step(words, length, k, state, n) exact_said' '#define bnv_rack_step(words, length, k, state, n) rack_said' \
+    '#define main pressed' '#include "rack.c"' '#undef main' \
+    'int main(void) { BnvStep near = {0}, old = {0}; int32_t x = 5, y = 5; near.answer = old.answer = BNV_NOT_ENABLED; near.row_value = -5;' \
+    'exact_said = near; rack_said = near; if (press(0, 0, &x, &y, 1) != SAME) return 1;' \
+    'exact_said = old; if (press(0, 0, &x, &y, 1) != TROUBLE) return 1;' \
+    'exact_said = near; rack_said = old; return press(0, 0, &x, &y, 1) != TROUBLE; }' >"$room/older.c"
+cc -std=c11 $strict -Wno-unused-parameter -I"$PWD/include" -I"$PWD/examples" "$room/older.c" "$library" -o "$room/older"
+"$room/older" >"$room/older.out" 2>&1 || { cat "$room/older.out"; exit 1; }
+
 # Actions of a show pressed, exactly and as the rack does.
 presses() { # STATUS LINES ARGUMENT..
     print racks "$@"

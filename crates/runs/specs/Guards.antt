@@ -40,8 +40,8 @@ pub record Near (rows : List Row) (s : List ℤ) (f : Failing) : Type 0 where
   pub value-is : f .value ≡ rowValue fails s
   pub below : f .value <ℤ pos 0
 
--- Of action k of a program that is ready to be tried on a state: not enabled names the first guard row that fails, moved and runs off say that the action is
--- enabled. Where something is refused, the answer is that refusal.
+-- Of action k of a program, tried on a state: not enabled names the first guard row that fails; moved and runs off say that the action is enabled. Where
+-- something is refused, the answer is that refusal.
 abbrev pub Guarded : Read Program → ℕ → List ℤ → Stepped → Type 0
 Guarded (refused r) k s a = a ≡ Refused r
 Guarded (got p ws i) k s (NotEnabled f) = Near (actionOf p k .guards) s f
