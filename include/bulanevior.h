@@ -45,13 +45,14 @@ static_assert(sizeof(size_t) == 8, "64-bit numbers only");
 _Static_assert(sizeof(size_t) == 8, "64-bit numbers only");
 #endif
 
-#define BNV_VERSION "0.6.0"
+#define BNV_VERSION "0.7.0"
 
 /* ---- Words: the kind in bits 31 to 28, the payload in bits 27 to 0. */
 
 #define BNV_KIND(word) ((uint32_t)(word) >> 28)
 #define BNV_PAYLOAD(word) ((uint32_t)(word) & 0x0FFFFFFFu)
 
+#define BNV_DISTANCE 0u /* a node's distance from node 0: as many actions as the path to it has; zeroed words have this kind too */
 #define BNV_VAR 1u    /* a variable's range */
 #define BNV_ROW 2u    /* a row's constant */
 #define BNV_TERM 3u   /* a variable's coefficient in a row */
@@ -68,15 +69,15 @@ _Static_assert(sizeof(size_t) == 8, "64-bit numbers only");
 #define BNV_FINDING 14u /* a finding */
 #define BNV_END 15u   /* the end of the logic */
 
-/* ---- A graph: the most nodes and actions, and how many words of a node's record, SETS and ORIGIN, come before its EDGE words. */
+/* ---- A graph: the most nodes and actions, and how many words of a node's record, SETS, ORIGIN and DISTANCE, come before its EDGE words. */
 
 #define BNV_MOST_NODES 512u
 #define BNV_MOST_ACTIONS 16u
-#define BNV_HEADER_WORDS 2u
+#define BNV_HEADER_WORDS 3u
 
 /* ---- Lent lists of bnv_judge, bnv_show and bnv_findings: the words that they need at least, and the only ones that are ever written. */
 
-#define BNV_GRAPH_WORDS (BNV_MOST_NODES * (BNV_HEADER_WORDS + BNV_MOST_ACTIONS)) /* 9,216 */
+#define BNV_GRAPH_WORDS (BNV_MOST_NODES * (BNV_HEADER_WORDS + BNV_MOST_ACTIONS)) /* 9,728 */
 #define BNV_PATH_WORDS 512u
 
 /*
@@ -210,8 +211,8 @@ BnvAsk bnv_ask(const uint32_t *words, size_t words_length, const uint32_t *lemma
  *
  * A predicate whose row has no coefficient on any variable that an action sets keeps its literal across that action without a lemma.
  *
- * A verdict fills the first BNV_GRAPH_WORDS words of the graph list with one record for each node, SETS, ORIGIN and an EDGE for each
- * action, and zeroes after them; and the first BNV_PATH_WORDS words of the path list with the STEP words that lead to the finding's
+ * A verdict fills the first BNV_GRAPH_WORDS words of the graph list with one record for each node, SETS, ORIGIN, DISTANCE and an EDGE
+ * for each action, and zeroes after them; and the first BNV_PATH_WORDS words of the path list with the STEP words that lead to the finding's
  * node, and zeroes after them. Refusals in the order 1 graph, 1 path, 2 to 4, 5 and 6, 11, 7.
  */
 

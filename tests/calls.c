@@ -71,7 +71,8 @@ static int words_left(size_t from)
 /* Did the call leave a graph of Fade and no path, and nothing past them? */
 static int graph_of_fade(void)
 {
-    if (graph[0] != 0x80000000 || graph[1] != 0xB0001FFF || graph[EDGES] != 0xC0000000 || graph[EDGES + 1] != 0xC0000000)
+    static const uint32_t record[RECORD] = {0x80000000, 0xB0001FFF, 0x00000000, 0xC0000000, 0xC0000000};
+    if (memcmp(graph, record, sizeof record) != 0)
         return 0;
     for (size_t i = RECORD; i < BNV_GRAPH_WORDS; i++)
         if (graph[i] != 0)
@@ -250,6 +251,9 @@ static void judge_refused(void)
 {
     fill();
     BnvJudge j = bnv_judge(fade, LOGIC, NULL, 0, graph, BNV_GRAPH_WORDS - 1, NULL, 0);
+    CHECK(j.verdict == BNV_JUDGE_REFUSED && j.refusal == BNV_REFUSED_SHORT && j.value == 0);
+    /* The room of the records before 0.7.0. */
+    j = bnv_judge(fade, LOGIC, lemmas, LEMMAS, graph, 9216, path, BNV_PATH_WORDS);
     CHECK(j.verdict == BNV_JUDGE_REFUSED && j.refusal == BNV_REFUSED_SHORT && j.value == 0);
     j = bnv_judge(fade, LOGIC, NULL, 0, graph, BNV_GRAPH_WORDS, NULL, 0);
     CHECK(j.verdict == BNV_JUDGE_REFUSED && j.refusal == BNV_REFUSED_SHORT && j.value == 1);

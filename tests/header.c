@@ -1,4 +1,5 @@
-/* The header by itself, as C11 and as C++17: each call is named, and each record has the size that it has in the library. */
+/* The header by itself, as C11 and as C++17: each call is named, each record has the size that it has in the library, and
+   so has the room of a graph, 512 records of 3 words and 16 edges. */
 #include "bulanevior.h"
 
 #ifdef __cplusplus
@@ -20,6 +21,8 @@ HOLDS(sizeof(bnv_successor(NULL, 0, 0, 0, 0, 0)) == sizeof(BnvSuccessor) && size
 HOLDS(offsetof(BnvStep, variable) == 8 && offsetof(BnvStep, refusal) == 16 && offsetof(BnvStep, value) == 24);
 HOLDS(offsetof(BnvStep, row) == 4 && offsetof(BnvStep, row_value) == 20);
 HOLDS(offsetof(BnvCheck, refusal) == 4 && offsetof(BnvCheck, value) == 8 && offsetof(BnvShow, judged) == 24);
+
+HOLDS(BNV_GRAPH_WORDS == 9728 && BNV_HEADER_WORDS == 3 && BNV_DISTANCE == 0);
 
 /* Something to compile. */
 extern const char bnv_header_version[];

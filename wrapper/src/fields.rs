@@ -203,18 +203,26 @@ fn of_finding_words() {
     assert_eq!(listed(&list).count(), 2);
 }
 
-/// Two nodes with three actions: the second was found from the first by action 2.
+/// Two nodes with three actions, and zeros: the second was found from the first by action 2.
 #[test]
-fn of_origins() {
-    let mut graph = [BNV_EDGE << 28; 10];
-    (graph[1], graph[6]) = (0xB000_1FFF, 0xB000_0002);
-    assert_eq!(origin(&graph, 3, 0), None);
-    assert_eq!(origin(&graph, 3, 1), Some((0, 2)));
-    assert_eq!(origin(&graph, 3, 2), None);
-    assert_eq!(origin(&graph, 2, 1), None);
-    assert_eq!(origin(&graph, usize::MAX, 2), None);
-    graph[6] = 0xB000_1FFE;
-    assert_eq!(origin(&graph, 3, 1), Some((511, 14)));
+fn of_records() {
+    let mut graph = [0; 18];
+    graph[..6].copy_from_slice(&[0x8000_0001, 0xB000_1FFF, 0, 0xC000_0001, 0xC000_0000, 0xCFFF_FFFF]);
+    graph[6..12].copy_from_slice(&[0x8000_4000, 0xB000_0002, 1, 0xC000_0000, 0xC000_0001, 0xCFFF_FFFF]);
+    let read = |graph: &[u32], actions, node| (origin(graph, actions, node), distance(graph, actions, node));
+    assert_eq!(header(&graph, 3, 1), Some([0x8000_4000, 0xB000_0002, 1]));
+    assert_eq!(read(&graph, 3, 0), (None, Some(0)));
+    assert_eq!(read(&graph, 3, 1), (Some((0, 2)), Some(1)));
+    assert_eq!(read(&graph[..9], 3, 1), (Some((0, 2)), Some(1)));
+    // Behind the last node, cut within a record, another count of actions, and where no number is large enough.
+    for (length, actions, node) in [(18, 3, 2), (18, 3, 3), (8, 3, 1), (18, 2, 1), (18, usize::MAX, 2), (18, 3, usize::MAX)] {
+        assert_eq!(read(&graph[..length], actions, node), (None, None), "{length} {actions} {node}");
+    }
+    (graph[7], graph[8]) = (0xB000_1FFE, 511);
+    assert_eq!(read(&graph, 3, 1), (Some((511, 14)), Some(511)));
+    // A record without its DISTANCE word, as libraries before 0.7.0 have it.
+    graph[8] = 0xC000_0000;
+    assert_eq!(read(&graph, 3, 1), (None, None));
 }
 
 #[test]
@@ -265,7 +273,7 @@ fn of_a_view() {
             let expected = match (node < 2, action < 3) {
                 (false, _) => Err(Refusal::Absent(node)),
                 (true, false) => Err(Refusal::Absent(action)),
-                (true, true) => Ok(Some(node * (2 + 3) + 2 + action)),
+                (true, true) => Ok(Some(node * (3 + 3) + 3 + action)),
             };
             assert_eq!(View::new(&graph, 2, 3).successor(node, action), expected);
         }

@@ -17,7 +17,7 @@ use std::fmt;
 pub const MOST_NODES: usize = raw::BNV_MOST_NODES as usize;
 /// The most actions of a program.
 pub const MOST_ACTIONS: usize = raw::BNV_MOST_ACTIONS as usize;
-/// The words of a node's record before its EDGE words: SETS and ORIGIN.
+/// The words of a node's record before its EDGE words: SETS, ORIGIN and DISTANCE.
 pub const HEADER_WORDS: usize = raw::BNV_HEADER_WORDS as usize;
 
 /// The words that `judge` needs in a graph list, and the only ones that it ever writes there.
@@ -500,15 +500,27 @@ pub fn listed(list: &[u32]) -> impl Iterator<Item = Finding> + '_ {
     list.iter().map_while(|&w| Finding::of(w))
 }
 
-/// Where a node was first found, by its ORIGIN word in a graph list that `judge`, `show` or `findings` has filled: its parent and
-/// the action. None for node 0, and where the list has no such word.
+/// The first words of a node's record in a graph list that `judge`, `show` or `findings` has filled: SETS, ORIGIN and DISTANCE.
+/// None where the list has no such record, as behind the last node: the words there are zero.
+pub fn header(graph: &[u32], actions: usize, node: usize) -> Option<[u32; HEADER_WORDS]> {
+    let place = node.checked_mul(HEADER_WORDS.checked_add(actions)?)?;
+    let words = *graph.get(place..)?.first_chunk()?;
+    let there = words.map(kind) == [raw::BNV_SETS, raw::BNV_ORIGIN, raw::BNV_DISTANCE];
+    there.then_some(words)
+}
+
+/// Where a node was first found, by its ORIGIN word in such a list: its parent and the action. None for node 0, and where the
+/// list has no such record.
 pub fn origin(graph: &[u32], actions: usize, node: usize) -> Option<(usize, usize)> {
-    let width = HEADER_WORDS.checked_add(actions)?;
-    let place = node.checked_mul(width)?.checked_add(1)?;
-    let word = *graph.get(place)?;
+    let word = header(graph, actions, node)?[1];
     let (parent, action) = (payload(word) >> 4 & 511, word & 15);
-    let there = kind(word) == raw::BNV_ORIGIN && payload(word) != 0x1FFF;
-    there.then_some((parent as usize, action as usize))
+    (payload(word) != 0x1FFF).then_some((parent as usize, action as usize))
+}
+
+/// How far a node is from node 0, by its DISTANCE word in such a list: as many actions as the path to it has. None where the list
+/// has no such record.
+pub fn distance(graph: &[u32], actions: usize, node: usize) -> Option<usize> {
+    Some(payload(header(graph, actions, node)?[2]) as usize)
 }
 
 /// A show, as its bytes were read: the lists for `check`, `action_part`, `step`, `rack_step` and `ask`, and Judge's answer.

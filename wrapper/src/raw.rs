@@ -3,6 +3,7 @@
 //! `Default`: a record comes from a call.
 
 /// The kinds of words.
+pub const BNV_DISTANCE: u32 = 0;
 pub const BNV_VAR: u32 = 1;
 pub const BNV_ROW: u32 = 2;
 pub const BNV_TERM: u32 = 3;
@@ -22,7 +23,7 @@ pub const BNV_END: u32 = 15;
 /// The most nodes of a graph and actions of a program, and the words of a node's record before its EDGE words.
 pub const BNV_MOST_NODES: u32 = 512;
 pub const BNV_MOST_ACTIONS: u32 = 16;
-pub const BNV_HEADER_WORDS: u32 = 2;
+pub const BNV_HEADER_WORDS: u32 = 3;
 
 /// The words that `judge` needs in its lists.
 pub const BNV_GRAPH_WORDS: u32 = BNV_MOST_NODES * (BNV_HEADER_WORDS + BNV_MOST_ACTIONS);

@@ -87,8 +87,10 @@ module _ (p : Program) (ok : WellFormed p) (ls : List Lemma) (good : Each (Lemma
       once = once;
       edges = edges;
       origins = λ k h. found k (origin g k) h (v .comes k h);
+      distances = v .measured .1;
       numbered = λ i k l h. before k (origin g i) (origin g k) (v .comes k h) (v .later i k l h);
       origin-count = v .origins-count;
+      distance-count = v .measured .0;
       edge-count = v .edges-count;
     }
 

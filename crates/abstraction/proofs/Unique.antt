@@ -1,4 +1,4 @@
--- Demand 2 fixes every record: two graphs that are both faithful for a program and a lemma list are equal.
+-- Demand 2 fixes every record: two graphs that are both faithful for a program and a lemma list are equal. The distances are the lengths of paths.
 use mathlib.Core.Path.{_≡_, refl, sym, ap, _∙_}
 use mathlib.Core.Logic.{⊎-elim}
 use mathlib.Core.List.{List}
@@ -12,8 +12,10 @@ use Rattle.grammar.specs.Programs.{Program}
 use Rattle.lemmas.specs.Lemmas.{Lemma}
 use Rattle.words.specs.LiteralSets.{Literal, setOf}
 use Rattle.formula.specs.Formula.{Monomial, False, And}
-use Rattle.search.specs.Search.{Answer, To, None, Origin, Root, From, Graph, count, origin, edge}
+use Rattle.search.specs.Search.{Answer, To, None, Origin, Root, From, Graph, count, origin, distance, distanceBy, edge}
+use Rattle.search.specs.Paths.{path}
 use Rattle.search.proofs.Count.{lt-or-le, eq-or-ne, same-place}
+use Rattle.search.proofs.Distances.{Below, distance-low, distance-length}
 use Rattle.abstraction.specs.Abstraction.{successor, start}
 use Rattle.abstraction.specs.Faithful.{literalsAt, Leads, FoundFirst, FoundBefore, Faithful}
 use Rattle.abstraction.proofs.Order.{earlier-below, below-earlier}
@@ -152,6 +154,21 @@ module _ (p : Program) (ls : List Lemma) where
     origins-same : g .origins ≡ h .origins
     origins-same = ext-getD Root (g .origins) (h .origins) (f .origin-count ∙ counts ∙ sym (e .origin-count)) (λ k b. origin-same k (rw (f .origin-count) at b))
 
+    -- ---- the same distances: those of parents agree, as they come before
+    distance-below : (n k : ℕ) → k < n → k < count g → distance g k ≡ distance h k
+    distance-below zero k l b = absurd (not-suc-le-zero l)
+    distance-below (suc n) k l b =
+        f .distances k b ∙ by (origin g k) (f .origins k b) (distance-below n) ∙ ap (distanceBy (h .distances)) (origin-same k b) ∙ sym (e .distances k (agree k b .0))
+      where
+        by : (o : Origin) → FoundFirst p ls g k o → ((i : ℕ) → i < n → i < count g → distance g i ≡ distance h i) → distanceBy (g .distances) o ≡ distanceBy (h .distances) o
+        by Root c before = refl
+        by (From i j) c before = ap suc (before i (omega (arith, c .0)) (omega (arith, c .0)))
+
+    distances-same : g .distances ≡ h .distances
+    distances-same =
+        ext-getD 0 (g .distances) (h .distances) (f .distance-count ∙ counts ∙ sym (e .distance-count))
+        (λ k b. let here : k < count g = rw (f .distance-count) at b in distance-below (suc k) k (omega arith) here)
+
     -- ---- the same edges
     leads-same : (x : Monomial) (c d : Answer) → Leads g x c → Leads h x d → c ≡ d
     leads-same False None None u v = refl
@@ -173,4 +190,24 @@ module _ (p : Program) (ls : List Lemma) where
             (λ le. let z : actions ≡ 0 = omega arith in absurd (not-suc-le-zero (rw (z, mul-zero) at b))) (lt-or-le 0 actions)
 
 pub faithful-unique : (p : Program) (ls : List Lemma) (g h : Graph) → Faithful p ls g → Faithful p ls h → g ≡ h
-faithful-unique p ls g h f e = λ i. record { words = words-same p ls g h f e i; origins = origins-same p ls g h f e i; edges = edges-same p ls g h f e i }
+faithful-unique p ls g h f e = λ i. record {
+  words = words-same p ls g h f e i;
+  origins = origins-same p ls g h f e i;
+  distances = distances-same p ls g h f e i;
+  edges = edges-same p ls g h f e i;
+}
+
+-- ---- a node's distance is at most its number, and the length of the path to it
+module _ (p : Program) (ls : List Lemma) (g : Graph) (f : Faithful p ls g) where
+  older : (k : ℕ) → k < count g → Below k (origin g k)
+  older k h = go (origin g k) (f .origins k h)
+    where
+      go : (o : Origin) → FoundFirst p ls g k o → Below k o
+      go Root c = tt
+      go (From i j) c = c .0
+
+  pub distance-number : (k : ℕ) → k < count g → distance g k ≤ k
+  distance-number = distance-low g (f .distance-count, f .distances) older
+
+  pub distance-path : (n k : ℕ) → k ≤ n → k < count g → length (path (g .origins) n k) ≡ distance g k
+  distance-path = distance-length g (f .distance-count, f .distances) older

@@ -19,7 +19,7 @@ use Rattle.grammar.specs.Programs.{Program}
 use Rattle.lemmas.specs.Lemmas.{Lemma}
 use Rattle.words.specs.LiteralSets.{Literal, literalsIn, setOf}
 use Rattle.formula.specs.Formula.{Monomial, False, And, Reachable}
-use Rattle.search.specs.Search.{Answer, To, None, Origin, Root, From, Graph, Result, Done, Over, count, nodeWord, origin, edge}
+use Rattle.search.specs.Search.{Answer, To, None, Origin, Root, From, Graph, Result, Done, Over, count, nodeWord, origin, distance, distanceBy, edge}
 use Rattle.records.specs.Records.{mostNodes}
 use Rattle.abstraction.specs.Abstraction.{successor, start}
 
@@ -58,8 +58,10 @@ pub record Faithful (p : Program) (ls : List Lemma) (g : Graph) : Type 0 where
   pub once : (i k : ℕ) → i < count g → k < count g → literalsAt g i ≡ literalsAt g k → i ≡ k
   pub edges : (k j : ℕ) → k < count g → j < length (p .actions) → Leads g (successor p ls j (literalsAt g k)) (edge (length (p .actions)) g k j)
   pub origins : (k : ℕ) → k < count g → FoundFirst p ls g k (origin g k)
+  pub distances : (k : ℕ) → k < count g → distance g k ≡ distanceBy (g .distances) (origin g k)
   pub numbered : (i k : ℕ) → i < k → k < count g → FoundBefore (origin g i) (origin g k)
   pub origin-count : length (g .origins) ≡ count g
+  pub distance-count : length (g .distances) ≡ count g
   pub edge-count : length (g .edges) ≡ count g * length (p .actions)
 
 pub record TooMany (p : Program) (ls : List Lemma) : Type 0 where

@@ -120,7 +120,7 @@ fn list_all(
     Listed::All(needed)
 }
 
-// Findings: the graph into the first 9,216 words of one list, all findings into the other, and their number.
+// Findings: the graph into the first 9,728 words of one list, all findings into the other, and their number.
 pub fn findings(words: &[u32], lemmas: &[u32], graph: &mut [u32], list: &mut [u32]) -> Listed
     ensures answer { λ r. ⌜ r ≡ listing (now (words .entry)) (now (lemmas .entry)) (now (graph .entry)) (now (list .entry)) .answer ⌝ }
     ensures graph { λ _. ⌜ now (graph .exit) ≡ listing (now (words .entry)) (now (lemmas .entry)) (now (graph .entry)) (now (list .entry)) .graph ⌝ }

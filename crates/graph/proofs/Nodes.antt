@@ -9,23 +9,22 @@ use native.Mathlib.Omega.{arith}
 use native.Mathlib.Nat.{suc-mul, zero-mul, mul-le-mul-right}
 use native.Mathlib.Numerals.{add-one}
 use borrow.Author.Tests.{lt-ltb}
-use lib.ListN.{replicate, length-replicate, length, drop, set}
-use lib.Seq.{drop-at, drop-set-lt}
+use lib.ListN.{replicate, length-replicate, length, drop}
+use lib.Seq.{drop-at}
 use Rattle.search.specs.Search.{Answer, To, None, Root, Graph, Result, Done, Over, count, links, linksIn, empty, turns, node, visited, explored}
 use Rattle.search.proofs.Theorem as theorem
 use Rattle.search.proofs.Steps.{explored-over, explored-done}
-use Rattle.records.specs.Records.{mostNodes, graphWords, originWord, stride, recordPlace, recordsOf, graphList}
-use Rattle.records.specs.Steps.{exploredOf}
+use Rattle.records.specs.Records.{mostNodes, header, graphWords, originWord, distanceWord, stride, recordPlace, recordsOf, graphList}
 use Rattle.records.specs.declared.Explored.{Explored}
 use Rattle.records.specs.declared.Explored.the-variants.{Whole, Full}
-use Rattle.records.specs.Steps.{column, Kept, Mid, Fair, Turned, Filled}
-use Rattle.records.proofs.Places.{most, zeros-left}
-use Rattle.records.proofs.Stores.{kept-stored}
+use Rattle.records.specs.Steps.{exploredOf, headed, column, Near, Kept, Mid, Fair, Turned, Filled}
+use Rattle.records.proofs.Places.{most, headed-drop, zeros-left}
+use Rattle.records.proofs.Stores.{near-stored, kept-stored}
 use Rattle.records.proofs.Listed.{listed}
 use Rattle.graph.proofs.Turns.{Still, settle, is-over}
 
 abbrev pub rootAt : List ℕ → ℕ → List ℕ
-rootAt l s = set (set l 0 s) 1 (originWord Root)
+rootAt l s = headed l 0 s (originWord Root) (distanceWord 0)
 
 -- l₀ is the list with node 0 in it
 pub record Running (next : ℕ → ℕ → Answer) (a s : ℕ) (l₀ l : List ℕ) (n x k : ℕ) : Type 0 where
@@ -33,33 +32,35 @@ pub record Running (next : ℕ → ℕ → Answer) (a s : ℕ) (l₀ l : List �
   pub one : 1 ≤ n
   pub few : n ≤ mostNodes
   pub bound : x ≤ k * a
+  pub near : Near l a n
   pub same : length l ≡ length l₀
   pub tail : drop graphWords l ≡ drop graphWords l₀
   pub held : Still l₀ (visited next a mostNodes (To s) k) l a n x (k * a)
 
 nothing : (l : List ℕ) (a : ℕ) → Kept l l a 0 0 0 empty
 unfolding column linksIn
-nothing l a = record { size = refl; leading = refl; width = refl; words = refl; apart = λ i h. absurd (omega arith); origins = refl; edges = λ i j h b. absurd (omega arith); rest = refl }
+nothing l a = record { size = refl; leading = refl; width = refl; words = refl; apart = λ i h. absurd (omega arith); origins = refl; distances = refl; edges = λ i j h b. absurd (omega arith); rest = refl }
 
 rebased : {l₀ l : List ℕ} {a n x e : ℕ} {g : Graph} → Kept l₀ l a n x e g → Kept l l a n x e g
-rebased h = record { size = h .size; leading = h .leading; width = h .width; words = h .words; apart = h .apart; origins = h .origins; edges = h .edges; rest = refl }
+rebased h = record { size = h .size; leading = h .leading; width = h .width; words = h .words; apart = h .apart; origins = h .origins; distances = h .distances; edges = h .edges; rest = refl }
 
 pub first-node : (next : ℕ → ℕ → Answer) (a s : ℕ) (l l₀ : List ℕ) → l₀ ≡ rootAt l s → stride a ≤ length l → Running next a s l₀ l₀ 1 0 0
 unfolding visited
 first-node next a s l l₀ root room =
-    let k = kept-stored l l a 0 0 0 empty (nothing l a) (omega (arith, zero-mul (stride a))) Root s (originWord Root) (omega (arith, zero-mul (stride a))) refl refl in
+    let k = kept-stored l l a 0 0 0 empty (nothing l a) (omega (arith, zero-mul (stride a))) Root s (originWord Root) (distanceWord 0) (omega (arith, zero-mul (stride a))) refl refl refl in
     record {
       low = omega arith;
       one = omega arith;
       few = omega arith;
       bound = omega arith;
+      near = rw root (rw (zero-mul (stride a)) at (near-stored l a 0 s (originWord Root) (distanceWord 0) (omega (arith, zero-mul (stride a))) (omega arith) (λ i h. absurd (omega arith))));
       same = refl;
       tail = refl;
       held = rw (root, zero-mul a) (rebased (rw (zero-mul (stride a)) at k));
     }
 
-root-tail : (l : List ℕ) (s m : ℕ) → 2 ≤ m → drop m (rootAt l s) ≡ drop m l
-root-tail l s m h = drop-set-lt m (set l 0 s) 1 (originWord Root) (omega arith) ∙ drop-set-lt m l 0 s (omega arith)
+root-tail : (l : List ℕ) (s m : ℕ) → header ≤ m → drop m (rootAt l s) ≡ drop m l
+root-tail l s m h = headed-drop l 0 s (originWord Root) (distanceWord 0) m (omega arith)
 
 module _ (next : ℕ → ℕ → Answer) (a s : ℕ) (l₁ l₀ l : List ℕ) (root : l₀ ≡ rootAt l₁ s) (n x k : ℕ) (inv : Running next a s l₀ l n x k) where
   module _ (r : Explored) (l′ : List ℕ) (lt : k < n) (t : Turned (λ g. turns next mostNodes g k a) l a n x (k * a) r l′ (k * a + a)) where
@@ -70,13 +71,14 @@ module _ (next : ℕ → ℕ → Answer) (a s : ℕ) (l₁ l₀ l : List ℕ) (r
     pub taken-on : (c d : ℕ) → r ≡ Whole c d → length l′ ≡ length l → Running next a s l₀ l′ c d (k + 1)
     unfolding visited
     taken-on c d is len =
-        let f : Fair n (k * a + a) (Whole c d) = rw is at (t .fair) in
+        let f : Fair l′ a n (k * a + a) (Whole c d) = rw is at (t .fair) in
         let next-place : (k + 1) * a ≡ k * a + a = rw add-one (suc-mul k a) in
         record {
           low = omega arith;
           one = omega arith;
           few = f .1;
           bound = rw next-place (f .2);
+          near = f .3;
           same = len ∙ inv .same;
           tail = t .tail ∙ inv .tail;
           held =
@@ -103,7 +105,7 @@ module _ (next : ℕ → ℕ → Answer) (a s : ℕ) (l₁ l₀ l : List ℕ) (r
           let some = inv .one in
           let all : k ≡ n = omega arith in
           let h′ : Kept l₀ l a n x (n * a) g = rw all at h in
-          let far : 2 ≤ recordPlace a n = omega (arith, mul-le-mul-right (stride a) some) in
+          let far : header ≤ recordPlace a n = omega (arith, mul-le-mul-right (stride a) some) in
           rw (explored-done next a mostNodes (To s) g k (omega arith) (omega arith) e)
           (rw (c, h .leading) (refl, listed l₀ l a n x g h′ wide ∙ rw (root, root-tail l₁ s (recordPlace a n) far)))
       go Over e h = absurd h

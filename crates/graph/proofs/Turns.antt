@@ -17,7 +17,7 @@ use Rattle.search.proofs.Steps.{Keeps, turns-keeps, turns-over}
 use Rattle.records.specs.Records.{mostNodes, graphWords, recordPlace}
 use Rattle.records.specs.declared.Explored.{Explored}
 use Rattle.records.specs.declared.Explored.the-variants.{Whole, Full}
-use Rattle.records.specs.Steps.{Kept, Mid, Fair, Turned}
+use Rattle.records.specs.Steps.{Near, Kept, Mid, Fair, Turned}
 use Rattle.records.proofs.Places.{first-at}
 use Rattle.graph.specs.Graph.{answerOf, nextOf}
 
@@ -58,17 +58,19 @@ pub record Going (next : ℕ → ℕ → Answer) (l₁ : List ℕ) (n x k a : �
   pub up : n ≤ m
   pub few : m ≤ mostNodes
   pub bound : y ≤ k * a + j
+  pub near : Near l a m
   pub same : length l ≡ length l₁
   pub tail : drop graphWords l ≡ drop graphWords l₁
   pub held : (l₀ : List ℕ) (g : Graph) → Kept l₀ l₁ a n x (k * a) g → Still l₀ (turns next mostNodes g k j) l a m y (k * a + j)
 
-pub begun : (next : ℕ → ℕ → Answer) (l : List ℕ) (n x k a : ℕ) → n ≤ mostNodes → x ≤ k * a → Going next l n x k a l n x 0
+pub begun : (next : ℕ → ℕ → Answer) (l : List ℕ) (n x k a : ℕ) → n ≤ mostNodes → x ≤ k * a → Near l a n → Going next l n x k a l n x 0
 unfolding turns
-begun next l n x k a few bound = record {
+begun next l n x k a few bound near = record {
   low = omega arith;
   up = omega arith;
   few = few;
   bound = omega arith;
+  near = near;
   same = refl;
   tail = refl;
   held = λ l₀ g h. rw (add-zero (k * a)) h;
@@ -93,13 +95,14 @@ module _ (next : ℕ → ℕ → Answer) (l₁ : List ℕ) (n x k a : ℕ) (l : 
     pub went : (c d : ℕ) → r ≡ Whole c d → length l′ ≡ length l → Going next l₁ n x k a l′ c d (j + 1)
     unfolding turns
     went c d is len =
-        let f : Fair m (k * a + j + 1) (Whole c d) = rw is at (t .fair) in
+        let f : Fair l′ a m (k * a + j + 1) (Whole c d) = rw is at (t .fair) in
         let next-place : k * a + (j + 1) ≡ k * a + j + 1 = omega arith in
         record {
           low = omega arith;
           up = omega (arith, inv .up);
           few = f .1;
           bound = omega arith;
+          near = f .3;
           same = len ∙ inv .same;
           tail = t .tail ∙ inv .tail;
           held = λ l₀ g h.
@@ -119,7 +122,7 @@ module _ (next : ℕ → ℕ → Answer) (l₁ : List ℕ) (n x k a : ℕ) (l : 
 
   pub gone : j ≡ a → Turned (λ g. turns next mostNodes g k a) l₁ a n x (k * a) (Whole m y) l (k * a + a)
   gone e = record {
-    fair = (inv .up, inv .few, rw e at (inv .bound));
+    fair = (inv .up, inv .few, rw e at (inv .bound), inv .near);
     tail = inv .tail;
     held = λ l₀ g h. rw e at (settled l₀ (turns next mostNodes g k j) l a m y (k * a + j) (inv .held l₀ g h));
   }

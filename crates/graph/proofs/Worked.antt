@@ -37,6 +37,7 @@ house-graph : Graph
 house-graph = record {
   words = 0x8000C000 ∷ 0x80004002 ∷ 0x80008001 ∷ [];
   origins = Root ∷ From 0 0 ∷ From 0 1 ∷ [];
+  distances = 0 ∷ 1 ∷ 1 ∷ [];
   edges = To 1 ∷ To 2 ∷ To 0 ∷ To 0 ∷ To 1 ∷ None ∷ To 1 ∷ To 0 ∷ None ∷ To 2 ∷ To 0 ∷ To 2 ∷ [];
 }
 

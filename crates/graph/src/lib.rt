@@ -6,8 +6,7 @@ ghost use Rattle.words.specs.Words.{word, SETS};
 ghost use Rattle.gather.specs.Gathering.{entries, successorOf};
 ghost use Rattle.search.specs.Search.{To, From, answered, turns, explored};
 ghost use Rattle.records.specs.Records.{mostNodes, graphWords, graphList};
-ghost use Rattle.records.specs.Steps.{exploredOf};
-ghost use Rattle.records.specs.Steps.{hintCount, Turned, Filled};
+ghost use Rattle.records.specs.Steps.{exploredOf, hintCount, Near, Turned, Filled};
 ghost use Rattle.graph.specs.Graph.{answerOf, nextOf, graphOf};
 use gather::Successor;
 use records::Explored;
@@ -34,7 +33,7 @@ fn act(
     known: u64,
 ) -> Explored
     requires { ⌜ (graphWords ≤ length (now graph)) × (hintCount ≤ length (now hints)) × (nodes ≤ mostNodes) × (actions ≤ 16) × (k < nodes) × (j < actions)
-        × (edges ≤ k * actions + j) ⌝ }
+        × (edges ≤ k * actions + j) × Near (now graph) actions nodes ⌝ }
     ensures { λ r. ⌜ Turned (λ h. answered mostNodes h (From k j) (answerOf (successorOf known))) (now (graph .entry)) actions nodes edges (k * actions + j) r
         (now (graph .exit)) (k * actions + j + 1) ⌝ }
 {
@@ -62,7 +61,8 @@ fn turn(
     k: usize,
 ) -> Explored
     requires { ⌜ (n ≤ length (now premises)) × (n ≤ length (now keys)) × (16 ≤ length (now kept)) × (graphWords ≤ length (now graph))
-        × (hintCount ≤ length (now hints)) × (nodes ≤ mostNodes) × (actions ≤ 16) × (k < nodes) × (edges ≤ k * actions) ⌝ }
+        × (hintCount ≤ length (now hints)) × (nodes ≤ mostNodes) × (actions ≤ 16) × (k < nodes) × (edges ≤ k * actions)
+        × Near (now graph) actions nodes ⌝ }
     ensures { λ r. ⌜ Turned (λ h. turns (nextOf (entries (now (premises .entry)) (now (keys .entry)) n) (now (kept .entry))) mostNodes h k actions)
         (now (graph .entry)) actions nodes edges (k * actions) r (now (graph .exit)) (k * actions + actions) ⌝ }
 {
@@ -126,7 +126,7 @@ fn explore_from(
     Explored::Whole(nodes, edges)
 }
 
-// The graph of the first n entries and the masks of what each action keeps, written into the list's first 9,216 words.
+// The graph of the first n entries and the masks of what each action keeps, written into the list's first 9,728 words.
 pub fn explore(
     premises: &[u32],
     keys: &[u32],

@@ -1,4 +1,4 @@
--- The count of edges in a verdict is the number of EDGE words that name a successor, among the first 9,216 words of the graph list.
+-- The count of edges in a verdict is the number of EDGE words that name a successor, among the first 9,728 words of the graph list.
 use mathlib.Core.Path.{_≡_, refl, sym, ap, _∙_}
 use mathlib.Core.Bool.{false}
 use mathlib.Core.List.{List, [], _∷_, _++_, append-assoc}
@@ -8,15 +8,15 @@ use native.Mathlib.Nat.{mul-add-mod-self-right, mod-eq-of-lt}
 use lib.ListN.{length, take, drop, replicate, length-append, length-replicate}
 use lib.Seq.{take-at}
 use borrow.Author.Tests.{ne-eqb}
-use Rattle.words.specs.Words.{payload, word, SETS, ORIGIN, EDGE, noNode}
+use Rattle.words.specs.Words.{payload, word, DISTANCE, SETS, ORIGIN, EDGE, noNode}
 use Rattle.words.specs.LiteralSets.{setOf}
 use Rattle.words.proofs.Laws.{kind-word}
 use Rattle.grammar.specs.Programs.{Program}
 use Rattle.grammar.specs.WellFormed.{WellFormed}
 use Rattle.lemmas.specs.Lemmas.{Lemma}
 use Rattle.formula.specs.Formula.{Monomial, False, And}
-use Rattle.search.specs.Search.{Answer, To, None, Origin, Root, From, Graph, count, links, nodeWord, origin, edge}
-use Rattle.records.specs.Records.{originWord, edgeWord, mostNodes, graphWords, recordPlace, recordsOf}
+use Rattle.search.specs.Search.{Answer, To, None, Origin, Root, From, Graph, count, links, nodeWord, origin, distance, edge}
+use Rattle.records.specs.Records.{originWord, distanceWord, edgeWord, mostNodes, graphWords, recordPlace, recordsOf}
 use Rattle.records.specs.Naming.{names, naming}
 use Rattle.records.proofs.Stores.{leads}
 use Rattle.records.proofs.Places.{most}
@@ -25,6 +25,7 @@ use Rattle.records.proofs.Naming.{Plain, edges-named}
 use Rattle.abstraction.specs.Abstraction.{successor}
 use Rattle.abstraction.specs.Faithful.{literalsAt, Leads, FoundFirst, Faithful}
 use Rattle.abstraction.proofs.Literals.{set-literals}
+use Rattle.abstraction.proofs.Unique.{distance-number}
 use Rattle.judge.specs.Worth.{Drawn}
 
 -- a word of another kind names none
@@ -50,6 +51,9 @@ module _ (p : Program) (ok : WellFormed p) (ls : List Lemma) (g : Graph) (f : Fa
       go Root c = refl
       go (From i j) c = other-kind ORIGIN (i * 16 + j) (omega (arith, c .0, c .1, ok .actions .few)) (λ z. omega arith)
 
+  distance-plain : (k : ℕ) → k < count g → names (distanceWord (distance g k)) ≡ false
+  distance-plain k h = other-kind DISTANCE (distance g k) (omega (arith, distance-number p ls g f k h)) (λ z. omega arith)
+
   edge-plain : (k j : ℕ) → k < count g → j < length (p .actions) → naming (edgeWord (edge (length (p .actions)) g k j) ∷ []) ≡ leads (edge (length (p .actions)) g k j)
   unfolding naming
   edge-plain k j h l = go (successor p ls j (literalsAt g k)) (edge (length (p .actions)) g k j) (f .edges k j h l)
@@ -59,7 +63,7 @@ module _ (p : Program) (ok : WellFormed p) (ls : List Lemma) (g : Graph) (f : Fa
       go (And m) (To n) c = edge-names n (omega (arith, c .0))
 
   plain : Plain (length (p .actions)) g
-  plain = record { nodes = node-plain; origins = origin-plain; edges = edge-plain; wide = f .edge-count }
+  plain = record { nodes = node-plain; origins = origin-plain; distances = distance-plain; edges = edge-plain; wide = f .edge-count }
 
 pub edges-counted : (p : Program) → WellFormed p → (ls : List Lemma) (g : Graph) (nodes edges : ℕ) (before after : List ℕ) → Drawn p ls g nodes edges before after
     → naming (take graphWords after) ≡ edges

@@ -20,10 +20,11 @@ use Rattle.lemmas.specs.LemmaGrammar.{readLemmas, LemmaOk}
 use Rattle.lemmas.proofs.LemmaLaws.{lemmas-accepted}
 use Rattle.lemmas.proofs.Refusing.{lemmas-refusal}
 use Rattle.search.specs.Search.{Graph, Result, Done, Over, count, links}
-use Rattle.records.specs.Records.{graphWords}
+use Rattle.records.specs.Records.{mostNodes, graphWords}
 use Rattle.abstraction.specs.Abstraction.{graph}
 use Rattle.abstraction.specs.Faithful.{TooMany, Demand2}
 use Rattle.abstraction.proofs.Demand2.{demand2}
+use Rattle.abstraction.proofs.Unique.{distance-path}
 use Rattle.tables.specs.Off.{firstOff}
 use Rattle.verdict.specs.Verdicts.{Finding, Forbid, RunOff, findings, nodeOf, pathWords, pathList, stepsTo}
 use Rattle.safety.proofs.Safety.{safe}
@@ -115,7 +116,12 @@ module _ (ws lemmas gl pl : List ℕ) where
 
   module _ (p : Program) (ls : List Lemma) (g : Graph) (gl′ : List ℕ) (k : Known ws lemmas gl p ls g gl′) where
     walked : (n : ℕ) → n < count g → Walked p g n pl (pathList (stepsTo g n) pl)
-    walked n h = record { steps = stepsTo g n; walk = steps-walk p ls g (k .is) n h; words = refl }
+    walked n h = record {
+      steps = stepsTo g n;
+      walk = steps-walk p ls g (k .is) n h;
+      long = distance-path p ls g (k .drawn .faithful) mostNodes n (omega (arith, k .drawn .few)) h;
+      words = refl;
+    }
 
     verdict-worthy : (fs : List Finding) → Each (λ f. nodeOf f < count g) fs → Demand2Of ws lemmas (verdict g fs) gl gl′ pl (pathList (pathTo g fs) pl)
     verdict-worthy [] h = of-read k _ (g, k .drawn)

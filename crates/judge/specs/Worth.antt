@@ -2,7 +2,7 @@
 --
 -- OfList, OfRead — a claim about the program and the lemmas that two lists of words are
 -- Drawn     — a list holds the records of a graph that is formula (3)'s, with these counts; 512 nodes are enough
--- Walked    — a list holds the steps of a walk in a graph from node 0 to a node
+-- Walked    — a list holds the steps of a walk in a graph from node 0 to a node, as many as its distance
 -- GraphLeft, PathLeft — the first, of the words that were read; both
 -- Demand2Of — of an answer: a verdict leaves the graph with its counts, and a finding the walk to its node; refusal 7 says that too many are reachable
 -- SafeOf    — demand 3, of the program that the words are
@@ -17,7 +17,7 @@ use Rattle.programs.specs.Calls.{read}
 use Rattle.runs.specs.Runs.{Safe}
 use Rattle.lemmas.specs.Lemmas.{Lemma}
 use Rattle.lemmas.specs.LemmaGrammar.{readLemmas}
-use Rattle.search.specs.Search.{Graph, Done, count, links}
+use Rattle.search.specs.Search.{Graph, Done, count, distance, links}
 use Rattle.search.specs.Paths.{Walk}
 use Rattle.records.specs.Records.{mostNodes, graphList}
 use Rattle.abstraction.specs.Faithful.{Faithful, TooMany}
@@ -47,6 +47,7 @@ pub record Drawn (p : Program) (ls : List Lemma) (g : Graph) (nodes edges : ℕ)
 pub record Walked (p : Program) (g : Graph) (node : ℕ) (before after : List ℕ) : Type 0 where
   pub steps : List ℕ
   pub walk : Walk (length (p .actions)) g 0 steps node
+  pub long : length steps ≡ distance g node
   pub words : after ≡ pathList steps before
 
 abbrev pub GraphLeft : List ℕ → List ℕ → ℕ → ℕ → List ℕ → List ℕ → Type 0

@@ -106,7 +106,7 @@ fn judge_graph(
     }
 }
 
-// Judge: the graph into the first 9,216 words of one list, the verdict, and its path into the first 512 words of the other.
+// Judge: the graph into the first 9,728 words of one list, the verdict, and its path into the first 512 words of the other.
 pub fn judge(words: &[u32], lemmas: &[u32], graph: &mut [u32], path: &mut [u32]) -> Judged
     ensures answer { λ r. ⌜ r ≡ judge (now (words .entry)) (now (lemmas .entry)) (now (graph .entry)) (now (path .entry)) .answer ⌝ }
     ensures graph { λ _. ⌜ now (graph .exit) ≡ judge (now (words .entry)) (now (lemmas .entry)) (now (graph .entry)) (now (path .entry)) .graph ⌝ }

@@ -1,15 +1,14 @@
 -- The promises of the requests, with their types and nothing else. The calls' own contracts, without any `requires` but `row_at`'s, which is no call from outside; all words are the lent lists' at entry:
 --   findings::findings(ws, ls, g, f)    r, g and f at exit are those of listing ws ls g f; SheetOf of r and both lists; r ≡ All 0 → SafeOf (read ws);
 --                                       Agrees with Judge's answer, and g at exit is Judge's                        crates/findings/src/lib.rt
---   reader::row_at(words, at, vars)     where vars ≤ 8 and at ≤ length words: r has the row and where reading goes on, or the refusal, of
---                                       row vars (drop at words) at, and of fed (begun vars at) (drop at words)     crates/reader/src/lib.rt
+--   reader::row_at(words, at, vars)     where vars ≤ 8 and at ≤ length words: r has the row and where reading goes on, or the refusal, of row vars (drop at words) at, and of fed (begun vars at) (drop at words)  crates/reader/src/lib.rt
 --   rack::rack_step(ws, k, s)           r and s at exit are those of rackCall ws k s                                  crates/rack/src/lib.rt
 --   runs::step, rack::rack_step         Guarded (ready (read ws) k s) k s r                                           crates/runs/src/lib.rt, crates/rack/src/lib.rt
 --   exports::bnv_findings, _rack_step   the same, r as the records of numbers findingsOf and stepOf; the rack's answer is not 2; of both steps it is 1 exactly where row_value is below 0  crates/exports/src/lib.rt
 use mathlib.Core.{Path.{_≡_}, Bool.{true, false, cond}, Logic.{_⊎_, _↔_}, List.{List, [], _∷_, _++_, map, List·Memᴰ}}
-use Prim.Native.Nat.{ℕ, _^_, _≤_, _<_}
+use Prim.Native.Nat.{ℕ, _+_, _^_, _≤_, _<_}
 use lib.{Dec.{eqb}, IntN.{ℤ, pos, negsuc, _+ℤ_, _*ℤ_}, Signed.{_≤ℤ_}, ListN.{length, getD}}
-use Rattle.words.specs.{Words.{kindOf, FINDING, signed}, Limits.{mostNodes, mostFindings, mostVariables}, declared.Refusal.the-variants.{Word as Missing}, LiteralSets.{Literal, B, NotB, predicateOf, literalsIn}}
+use Rattle.words.specs.{Words.{kindOf, payload, DISTANCE, FINDING, signed}, Limits.{mostNodes, mostFindings, mostVariables}, declared.Refusal.the-variants.{Word as Missing}, LiteralSets.{Literal, B, NotB, predicateOf, literalsIn}}
 use Rattle.rows.specs.{declared.Row.{Row}, Rows.{rowValue}}
 use Rattle.grammar.specs.{Reading.{got}, Programs.{Assignment, Action, Program}, WellFormed.{Each, WellFormed}, Grammar.{row}}
 use Rattle.feed.specs.{declared.Fed.the-variants.{End}, declared.Said.the-variants.{Complete, Refused}, Steps.{Held, place, rowStep, fed, begun}}
@@ -20,11 +19,12 @@ use Rattle.sixteen.specs.Sixteen.{in16, cut, wrappedSum, wrappedProduct, wrappe
 use Rattle.rack.specs.Rack.{rackState, rackRun, rackCall}
 use Rattle.frame.specs.Frame.{zeroOn, untouched}
 use Rattle.formula.specs.Formula.{False, And, Disabled, Then, follows}
-use Rattle.search.specs.Search.{Graph, count}
+use Rattle.search.specs.Search.{Graph, count, distance}
+use Rattle.records.specs.{Records.{recordPlace}, Steps.{distanceOffset}}
 use Rattle.abstraction.specs.{Abstraction.{among, shown, successor, graph}, Faithful.{Faithful}}
-use Rattle.verdict.specs.Verdicts.{Finding, findings}
+use Rattle.verdict.specs.Verdicts.{Finding, findings, stepsTo}
 use Rattle.sheet.specs.Sheets.{findingWord, Fits, Due, Sheet, Told}
-use Rattle.judge.specs.{declared.Judged.the-variants.{Safe as IsSafe}, Calls.{judge}}
+use Rattle.judge.specs.{declared.Judged.the-variants.{Safe as IsSafe}, Calls.{judge}, Worth.{Drawn}}
 use Rattle.worked.specs.Shows.{fade, incident, incidentProgram, nineTimes, row2}
 
 -- ---- request 1: untouched predicates keep their literal
@@ -53,13 +53,10 @@ needless-lemma p xs ys l m says free own =
     (Rattle.abstraction.proofs.Needless.graph-same p xs ys l m says free own, Rattle.verdict.proofs.Needless.findings-same p xs ys l m says free own)
 
 -- ---- request 2: every finding on the sheet
--- a finding is among those of a graph exactly if the request's sentence says so
-pub findings-due : (p : Program) (ls : List Lemma) (g : Graph) (f : Finding) → List·Memᴰ f (findings p ls g) ↔ Due p ls g f
-findings-due = Rattle.sheet.proofs.Dues.findings-are
-
--- under the limits the word of a finding has 32 bits and its kind, and loses nothing
-pub finding-word : (f : Finding) → Fits f → (findingWord f < 2 ^ 32) × (kindOf (findingWord f) ≡ FINDING) × ((f′ : Finding) → Fits f′ → findingWord f ≡ findingWord f′ → f ≡ f′)
-finding-word f h = (Rattle.sheet.proofs.Fields.word-small f h, Rattle.sheet.proofs.Fields.word-kind f h, λ f′. Rattle.sheet.proofs.Fields.word-tells f f′ h)
+-- a finding is among those of a graph exactly if the request's sentence says so; under the limits its word has 32 bits and its kind, and loses nothing
+pub finding : (f : Finding) → ((p : Program) (ls : List Lemma) (g : Graph) → List·Memᴰ f (findings p ls g) ↔ Due p ls g f)
+    × (Fits f → (findingWord f < 2 ^ 32) × (kindOf (findingWord f) ≡ FINDING) × ((f′ : Finding) → Fits f′ → findingWord f ≡ findingWord f′ → f ≡ f′))
+finding f = (λ p ls g. Rattle.sheet.proofs.Dues.findings-are p ls g f, λ h. (Rattle.sheet.proofs.Fields.word-small f h, Rattle.sheet.proofs.Fields.word-kind f h, λ f′. Rattle.sheet.proofs.Fields.word-tells f f′ h))
 
 -- the words of a graph's findings, at most 135,168, are its sheet, and it has one sheet only: what is due and the order fix the list, word for word
 pub sheet : (p : Program) (ls : List Lemma) (g : Graph)
@@ -72,13 +69,10 @@ pub nothing-missed : (p : Program) → WellFormed p → (ls : List Lemma) → Ea
 nothing-missed = Rattle.findings.proofs.Missed.nothing-missed
 
 -- ---- request 3: read a row once
--- the steps, fed the words of any list one after the other, give what the grammar's reader of a row gives: the row with the words that are left, the one that ended it first, or the refusal
-pub row-in-steps : (vars : ℕ) → vars ≤ mostVariables → (i : ℕ) (ws : List ℕ) → fed (begun vars i) ws ≡ row vars ws i
-row-in-steps = Rattle.feed.proofs.Feeding.fed-row
-
--- the list's end always decides: 2 before the ROW, and after it the row is complete
-pub end-decides : (h : Held) → rowStep h End .said ≡ cond (eqb (h .kept .taken) 0) (Refused (Missing (place (h .kept)))) Complete
-end-decides = Rattle.feed.proofs.Laws.end-decides
+-- the steps, fed the words of any list, give what the grammar's reader of a row gives: the row with the words that are left, the one that ended it first, or the refusal; and the list's end always decides: 2 before the ROW, complete after it
+pub row-in-steps : ((vars : ℕ) → vars ≤ mostVariables → (i : ℕ) (ws : List ℕ) → fed (begun vars i) ws ≡ row vars ws i)
+    × ((h : Held) → rowStep h End .said ≡ cond (eqb (h .kept .taken) 0) (Refused (Missing (place (h .kept)))) Complete)
+row-in-steps = (Rattle.feed.proofs.Feeding.fed-row, Rattle.feed.proofs.Laws.end-decides)
 
 -- ---- request 4: the rack's sixteen bits
 -- cutting is modulo 65,536, and so are the wrapped sum and product; what a row gives in sixteen bits is its exact value, cut and read as two's complement; what sixteen bits hold is read back
@@ -118,3 +112,9 @@ first-failing = Rattle.runs.proofs.Guards.first-failing
 pub near-worked : (let lacks : ℕ → Failing = λ k. record { row = k; value = negsuc 4 } in let s = pos 0 ∷ [] in (stepCall fade 0 s ≡ stay (NotEnabled (lacks 0)) s) × (rackCall fade 0 s ≡ stay (NotEnabled (lacks 0)) s)
     × (firstFailing (row2 (pos 1) (pos 0) (negsuc 4) ∷ row2 (pos 1) (pos 0) (negsuc 9) ∷ row2 (pos 1) (pos 0) (negsuc 13) ∷ []) (pos 5 ∷ []) ≡ lacks 1))
 near-worked = Rattle.worked.proofs.Near.near-worked
+
+-- ---- request 6: distance in the node record
+-- the third word of each record that a verdict leaves has kind 0, and its payload is the node's distance, which is the length of the path to it; Faithful has the distances, so that graph-faithful and graph-unique are of them too
+pub distance-words : (p : Program) (ls : List Lemma) (g : Graph) (n e : ℕ) (before after : List ℕ) → Drawn p ls g n e before after → (k : ℕ) → k < count g
+    → let w = getD after (recordPlace (length (p .actions)) k + distanceOffset) 0 in (kindOf w ≡ DISTANCE) × (payload w ≡ distance g k) × (length (stepsTo g k) ≡ distance g k)
+distance-words = Rattle.judge.proofs.Distances.distance-words

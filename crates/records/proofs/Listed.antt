@@ -7,14 +7,13 @@ use mathlib.Core.List.{List, [], _∷_, _++_, append-assoc}
 use Prim.Native.Nat.{ℕ, zero, suc, _+_, _*_, _<_, _≤_}
 use native.Mathlib.Omega.{arith}
 use native.Mathlib.Nat.{suc-mul, zero-mul, not-suc-le-zero}
-use lib.ListN.{length, take, drop, getD, length-append, length-drop, length-map, take-append-drop, List·getD-append}
+use lib.ListN.{length, take, drop, getD, length-append, length-drop, take-append-drop, List·getD-append}
 use lib.Seq.{getD-append-add, take-add, getD-take, getD-drop, getD-at, ext-getD, length-take-le}
-use Rattle.integers.proofs.Fill.{getD-mapped}
 use Rattle.search.specs.Search.{Root, Graph, edge}
 use Rattle.search.proofs.Count.{lt-or-le}
-use Rattle.records.specs.Records.{originWord, edgeWord, header, stride, recordPlace, edgePlace, edgeRow, nodeRecord, recordsOf}
-use Rattle.records.specs.Steps.{Kept}
-use Rattle.records.proofs.Places.{row-within, column-length, column-at}
+use Rattle.records.specs.Records.{originWord, distanceWord, edgeWord, header, stride, recordPlace, edgePlace, edgeRow, nodeRecord, recordsOf}
+use Rattle.records.specs.Steps.{originOffset, distanceOffset, Kept}
+use Rattle.records.proofs.Places.{row-within, column-at, mapped-at}
 
 row-length : (a : ℕ) (g : Graph) (k j : ℕ) → length (edgeRow a g k j) ≡ j
 unfolding edgeRow
@@ -31,10 +30,9 @@ row-at a g k (suc j) r h =
 module _ (l₀ l : List ℕ) (a n x : ℕ) (g : Graph) (h : Kept l₀ l a n x (n * a) g) (room : recordPlace a n ≤ length l) where
   record-word : (k r : ℕ) → k < n → r < stride a → getD l (recordPlace a k + r) 0 ≡ getD (nodeRecord a g k) r 0
   record-word k zero b hr = sym (column-at l a 0 n k b) ∙ ap (λ (y : List ℕ). getD y k 0) (h .words)
-  record-word k (suc zero) b hr =
-      let len : length (g .origins) ≡ n = sym (length-map (g .origins) originWord) ∙ sym (ap length (h .origins)) ∙ column-length l a 1 n in
-      sym (column-at l a 1 n k b) ∙ ap (λ (y : List ℕ). getD y k 0) (h .origins) ∙ getD-mapped originWord (g .origins) k Root 0 (omega arith)
-  record-word k (suc (suc r)) b hr =
+  record-word k (suc zero) b hr = mapped-at l a originOffset n k b originWord (g .origins) Root (h .origins)
+  record-word k (suc (suc zero)) b hr = mapped-at l a distanceOffset n k b distanceWord (g .distances) 0 (h .distances)
+  record-word k (suc (suc (suc r))) b hr =
       ap (λ (y : ℕ). getD l (recordPlace a k + y) 0) (omega arith) ∙ h .edges k r (omega arith) (omega (arith, row-within k n a b)) ∙ sym (row-at a g k a r (omega arith))
 
   rows : (k : ℕ) → k ≤ n → take (recordPlace a k) l ≡ recordsOf a g k
@@ -73,5 +71,5 @@ record-at a g (suc n) rest k r hk hr =
 -- the edge word of node k and action j
 pub edge-at : (a : ℕ) (g : Graph) (n : ℕ) (rest : List ℕ) (k j : ℕ) → k < n → j < a → getD (recordsOf a g n ++ rest) (edgePlace a k j) 0 ≡ edgeWord (edge a g k j)
 edge-at a g n rest k j hk hj =
-    let two : header + j ≡ suc (suc j) = omega arith in
-    record-at a g n rest k (header + j) hk (omega arith) ∙ ap (λ (y : ℕ). getD (nodeRecord a g k) y 0) two ∙ row-at a g k a j hj
+    let past : header + j ≡ suc (suc (suc j)) = omega arith in
+    record-at a g n rest k (header + j) hk (omega arith) ∙ ap (λ (y : ℕ). getD (nodeRecord a g k) y 0) past ∙ row-at a g k a j hj

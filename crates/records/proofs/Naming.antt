@@ -7,9 +7,9 @@ use native.Mathlib.Omega.{arith}
 use native.Mathlib.Nat.{suc-mul, zero-mul}
 use lib.ListN.{length, take, getD, replicate}
 use lib.Seq.{take-suc, take-all}
-use Rattle.search.specs.Search.{Answer, To, None, Graph, count, links, linksIn, nodeWord, origin, edge}
+use Rattle.search.specs.Search.{Answer, To, None, Graph, count, links, linksIn, nodeWord, origin, distance, edge}
 use Rattle.search.proofs.Count.{row-below}
-use Rattle.records.specs.Records.{originWord, edgeWord, edgeRow, nodeRecord, recordsOf}
+use Rattle.records.specs.Records.{originWord, distanceWord, edgeWord, edgeRow, nodeRecord, recordsOf}
 use Rattle.records.specs.Naming.{names, naming}
 use Rattle.records.proofs.Stores.{leads, links-more}
 
@@ -30,6 +30,7 @@ naming-zeros (suc n) = naming-zeros n
 pub record Plain (a : ℕ) (g : Graph) : Type 0 where
   pub nodes : (k : ℕ) → k < count g → names (nodeWord g k) ≡ false
   pub origins : (k : ℕ) → k < count g → names (originWord (origin g k)) ≡ false
+  pub distances : (k : ℕ) → k < count g → names (distanceWord (distance g k)) ≡ false
   pub edges : (k j : ℕ) → k < count g → j < a → naming (edgeWord (edge a g k j) ∷ []) ≡ leads (edge a g k j)
   pub wide : length (g .edges) ≡ count g * a
 
@@ -56,7 +57,7 @@ module _ (a : ℕ) (g : Graph) (h : Plain a g) where
   records-naming (suc n) l =
       let ih = records-naming n (omega arith) in
       let row = row-naming n l a (omega arith) in
-      naming-append (recordsOf a g n) (nodeRecord a g n) ∙ rw (h .nodes n l, h .origins n l, suc-mul n a) (omega (arith, ih, row))
+      naming-append (recordsOf a g n) (nodeRecord a g n) ∙ rw (h .nodes n l, h .origins n l, h .distances n l, suc-mul n a) (omega (arith, ih, row))
 
   -- whatever zeros come behind
   pub edges-named : (n : ℕ) → naming (recordsOf a g (count g) ++ replicate n 0) ≡ links g

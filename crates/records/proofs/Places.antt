@@ -1,21 +1,23 @@
 -- Where records stand, and the lookup among them:
 --     row-within, most, one-more      records lie one after another, and within their room
---     column-length, column-at, column-other   a column's words, and stores elsewhere
+--     column-length, column-at, mapped-at, column-same   a column's words, and those of another list
+--     headed-word, -origin, -distance, -other, -drop, -length   the first words of a record, and what is not there
 --     tried, none-found, found        the loop that looks a word up, wherever it begins
 --     firsts-more                     one word more that is not there yet
 --     zeros-left                      what is left of a run of zeros
 use mathlib.Core.Path.{_≡_, refl, sym, ap, subst, _∙_}
-use mathlib.Core.Logic.{⊎-elim}
-use mathlib.Core.List.{List, [], _∷_, _++_}
+use mathlib.Core.Logic.{_⊎_, ⊎-elim}
+use mathlib.Core.List.{List, [], _∷_, _++_, map}
 use Prim.Native.Nat.{ℕ, zero, suc, _+_, _-_, _*_, _<_, _≤_}
 use native.Mathlib.Omega.{arith}
 use native.Mathlib.Nat.{sub-zero, suc-sub-suc, suc-mul, mul-le-mul, mul-le-mul-right, not-suc-le-zero}
-use lib.ListN.{length, getD, set, drop, replicate, length-replicate, length-append, List·getD-append}
-use lib.Seq.{drop-append-le, getD-set-other, getD-at}
+use lib.ListN.{length, getD, set, drop, replicate, length-replicate, length-append, length-map, length-set, List·getD-append}
+use lib.Seq.{drop-append-le, drop-set-lt, getD-set-same, getD-set-other, getD-at}
+use Rattle.integers.proofs.Fill.{getD-mapped}
 use Rattle.search.specs.Search.{seek}
 use Rattle.search.proofs.Count.{lt-or-le, eq-or-ne, seek-found, seek-bound, seek-le}
-use Rattle.records.specs.Records.{mostNodes, graphWords, stride, recordPlace}
-use Rattle.records.specs.Steps.{column, Firsts}
+use Rattle.records.specs.Records.{mostNodes, header, graphWords, stride, recordPlace}
+use Rattle.records.specs.Steps.{originOffset, distanceOffset, headed, column, Firsts}
 
 pub row-within : (i n s : ℕ) → i < n → i * s + s ≤ n * s
 row-within i n s h = omega (arith, mul-le-mul-right s h, suc-mul i s)
@@ -47,11 +49,50 @@ column-at l a c (suc n) k h =
 pub first-at : (l : List ℕ) (a n k : ℕ) → k < n → getD (column l a 0 n) k 0 ≡ getD l (recordPlace a k) 0
 first-at l a n k h = let e : recordPlace a k + 0 ≡ recordPlace a k = omega arith in column-at l a 0 n k h ∙ ap (λ (x : ℕ). getD l x 0) e
 
-pub column-other : (l : List ℕ) (a c n p v : ℕ) → ((i : ℕ) → i < n → recordPlace a i + c ≡ p → ⊥) → column (set l p v) a c n ≡ column l a c n
+-- a column that has the words of a list's elements
+pub mapped-at : {A : Type 0} (l : List ℕ) (a c n k : ℕ) → k < n → (f : A → ℕ) (xs : List A) (d : A) → column l a c n ≡ map f xs → getD l (recordPlace a k + c) 0 ≡ f (getD xs k d)
+mapped-at l a c n k h f xs d e =
+    let len : length xs ≡ n = sym (length-map xs f) ∙ sym (ap length e) ∙ column-length l a c n in
+    sym (column-at l a c n k h) ∙ ap (λ (y : List ℕ). getD y k 0) e ∙ getD-mapped f xs k d 0 (omega arith)
+
+pub column-same : (l m : List ℕ) (a c n : ℕ) → ((i : ℕ) → i < n → getD m (recordPlace a i + c) 0 ≡ getD l (recordPlace a i + c) 0) → column m a c n ≡ column l a c n
 unfolding column
-column-other l a c zero p v apart = refl
-column-other l a c (suc n) p v apart =
-    rw (column-other l a c n p v (λ i h. apart i (omega arith)), getD-set-other l p (recordPlace a n + c) v 0 (apart n (omega arith)))
+column-same l m a c zero same = refl
+column-same l m a c (suc n) same = rw (column-same l m a c n (λ i h. same i (omega arith)), same n (omega arith))
+
+-- ---- the first words of a record
+module _ (l : List ℕ) (p w o d : ℕ) where
+  abbrev with-origin : List ℕ
+  with-origin = set (set l p w) (p + originOffset) o
+
+  pub headed-length : length (headed l p w o d) ≡ length l
+  headed-length = simp length-set refl
+
+  pub headed-drop : (m : ℕ) → p + header ≤ m → drop m (headed l p w o d) ≡ drop m l
+  headed-drop m h =
+      drop-set-lt m with-origin (p + distanceOffset) d (omega arith) ∙ drop-set-lt m (set l p w) (p + originOffset) o (omega arith) ∙ drop-set-lt m l p w (omega arith)
+
+  pub headed-other : (q : ℕ) → (q < p) ⊎ (p + header ≤ q) → getD (headed l p w o d) q 0 ≡ getD l q 0
+  headed-other q out =
+      getD-set-other with-origin (p + distanceOffset) q d 0 (apart distanceOffset (omega arith))
+      ∙ getD-set-other (set l p w) (p + originOffset) q o 0 (apart originOffset (omega arith)) ∙ getD-set-other l p q w 0 (λ e. ⊎-elim (λ lt. omega arith) (λ ge. omega arith) out)
+    where
+      apart : (c : ℕ) → c < header → q ≡ p + c → ⊥
+      apart c h e = ⊎-elim (λ lt. omega arith) (λ ge. omega arith) out
+
+  module _ (room : p + header ≤ length l) where
+    pub headed-word : getD (headed l p w o d) p 0 ≡ w
+    headed-word =
+        getD-set-other with-origin (p + distanceOffset) p d 0 (λ e. omega arith)
+        ∙ getD-set-other (set l p w) (p + originOffset) p o 0 (λ e. omega arith) ∙ getD-set-same l p w 0 (omega arith)
+
+    pub headed-origin : getD (headed l p w o d) (p + originOffset) 0 ≡ o
+    headed-origin =
+        getD-set-other with-origin (p + distanceOffset) (p + originOffset) d 0 (λ e. omega arith)
+        ∙ getD-set-same (set l p w) (p + originOffset) o 0 (omega (arith, length-set l p w))
+
+    pub headed-distance : getD (headed l p w o d) (p + distanceOffset) 0 ≡ d
+    headed-distance = getD-set-same with-origin (p + distanceOffset) d 0 (omega (arith, length-set (set l p w) (p + originOffset) o, length-set l p w))
 
 -- ---- the lookup
 -- a candidate is tried, and has another word

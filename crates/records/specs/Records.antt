@@ -1,6 +1,6 @@
--- The records of a graph in a list of words, one after the other: a node's word, its origin, and an edge for each action.
+-- The records of a graph in a list of words, one after the other: a node's word, its origin, its distance, and an edge for each action.
 --
--- edgeWord, originWord   — the words of an edge and of an origin
+-- edgeWord, originWord, distanceWord — the words of an edge, of an origin and of a distance
 -- stride                 — how many words a record has
 -- recordPlace, edgePlace — where a record begins; where an edge of it stands
 -- edgeRow, nodeRecord, recordsOf — the first j edge words of node k; the record of node k; the first n records
@@ -8,9 +8,9 @@
 use Prim.Native.Nat.{ℕ, zero, suc, _+_, _*_, _-_}
 use mathlib.Core.List.{List, [], _∷_, _++_}
 use lib.ListN.{drop, replicate}
-use Rattle.words.specs.Words.{word, ORIGIN, EDGE, noNode, noParent}
+use Rattle.words.specs.Words.{word, DISTANCE, ORIGIN, EDGE, noNode, noParent}
 pub use Rattle.words.specs.Limits.{mostNodes, header, graphWords}
-use Rattle.search.specs.Search.{Answer, To, None, Origin, Root, From, Graph, Result, Done, Over, count, nodeWord, origin, edge}
+use Rattle.search.specs.Search.{Answer, To, None, Origin, Root, From, Graph, Result, Done, Over, count, nodeWord, origin, distance, edge}
 
 abbrev pub edgeWord : Answer → ℕ
 edgeWord (To m) = word EDGE m
@@ -20,6 +20,10 @@ edgeWord None = word EDGE noNode
 abbrev pub originWord : Origin → ℕ
 originWord Root = word ORIGIN noParent
 originWord (From p j) = word ORIGIN (p * 16 + j)
+
+-- Request 6: of kind 0, the payload is the distance.
+abbrev pub distanceWord : ℕ → ℕ
+distanceWord d = word DISTANCE d
 
 -- ---- where the words stand
 abbrev pub stride : ℕ → ℕ
@@ -37,7 +41,7 @@ edgeRow a g k zero = []
 edgeRow a g k (suc j) = edgeRow a g k j ++ (edgeWord (edge a g k j) ∷ [])
 
 abbrev pub nodeRecord : ℕ → Graph → ℕ → List ℕ
-nodeRecord a g k = nodeWord g k ∷ originWord (origin g k) ∷ edgeRow a g k a
+nodeRecord a g k = nodeWord g k ∷ originWord (origin g k) ∷ distanceWord (distance g k) ∷ edgeRow a g k a
 
 unfoldable pub recordsOf : ℕ → Graph → ℕ → List ℕ
 recordsOf a g zero = []

@@ -2,11 +2,10 @@
 ghost use mathlib.Core.Path.{_≡_};
 ghost use mathlib.Core.List.{_++_};
 ghost use Prim.Native.Nat.{_+_, _*_, _<_, _≤_};
-ghost use lib.ListN.{length, drop, getD, set, replicate};
+ghost use lib.ListN.{length, drop, getD, replicate};
 ghost use Rattle.search.specs.Search.{To, None, Root, From, seek, answered};
-ghost use Rattle.records.specs.Records.{edgeWord, originWord, mostNodes, header, graphWords, stride, recordPlace, edgePlace};
-ghost use Rattle.records.specs.Steps.{originOffset};
-ghost use Rattle.records.specs.Steps.{column, hintCount, Firsts, Turned};
+ghost use Rattle.records.specs.Records.{edgeWord, originWord, distanceWord, mostNodes, header, graphWords, stride, recordPlace, edgePlace};
+ghost use Rattle.records.specs.Steps.{distanceOffset, headed, column, hintCount, Firsts, Near, Turned};
 use words::Kind;
 
 // What a search answers.
@@ -17,11 +16,14 @@ pub enum Explored {
     Full,
 }
 
-// How many words of a record come before its edges: the node's word and its origin.
-const HEADER: usize = 2;
+// How many words of a record come before its edges: the node's word, its origin and its distance.
+const HEADER: usize = 3;
 
 // Where in a record the origin stands.
 pub const ORIGIN_OFFSET: usize = 1;
+
+// Where in a record the distance stands.
+const DISTANCE_OFFSET: usize = 2;
 
 // How many words the records have room in.
 pub const ROOM: usize = words::NODES * (HEADER + words::ACTIONS);
@@ -63,6 +65,14 @@ pub fn root_word() -> u32
     ensures { λ r. ⌜ r ≡ originWord Root ⌝ }
 {
     Kind::ORIGIN.word(words::NO_PARENT)
+}
+
+// The word of a node's distance.
+fn distance_word(d: u32) -> u32
+    requires { ⌜ d < mostNodes ⌝ }
+    ensures { λ r. ⌜ r ≡ distanceWord d ⌝ }
+{
+    Kind::DISTANCE.word(d)
 }
 
 // The first n words become zero.
@@ -118,13 +128,31 @@ pub fn word_at(graph: &[u32], actions: usize, k: usize) -> u32
     graph[at]
 }
 
+// The distance of node k, which is its word's payload: the kind is 0.
+fn distance_at(graph: &[u32], actions: usize, k: usize) -> u32
+    requires { ⌜ (graphWords ≤ length (now graph)) × (actions ≤ 16) × (k < mostNodes) ⌝ }
+    ensures { λ r. ⌜ r ≡ getD (now (graph .entry)) (recordPlace actions k + distanceOffset) 0 ⌝ }
+{
+    let at = record_place(actions, k);
+    graph[at + DISTANCE_OFFSET]
+}
+
+// The record of a node, as yet without edges.
+fn store(graph: &mut [u32], at: usize, w: u32, origin: u32, distance: u32)
+    requires { ⌜ (at + header ≤ length (now graph)) × (distance < mostNodes) ⌝ }
+    ensures { λ _. ⌜ now (graph .exit) ≡ headed (now (graph .entry)) at w origin (distanceWord distance) ⌝ }
+{
+    graph[at] = w;
+    graph[at + ORIGIN_OFFSET] = origin;
+    graph[at + DISTANCE_OFFSET] = distance_word(distance);
+}
+
 // Node 0, as yet without edges.
 pub fn begin(graph: &mut [u32], w: u32)
     requires { ⌜ header ≤ length (now graph) ⌝ }
-    ensures { λ _. ⌜ now (graph .exit) ≡ set (set (now (graph .entry)) 0 w) originOffset (originWord Root) ⌝ }
+    ensures { λ _. ⌜ now (graph .exit) ≡ headed (now (graph .entry)) 0 w (originWord Root) (distanceWord 0) ⌝ }
 {
-    graph[0] = w;
-    graph[ORIGIN_OFFSET] = root_word();
+    store(&mut *graph, 0, w, root_word(), 0);
 }
 
 // Action j has no successor at node k.
@@ -136,7 +164,8 @@ pub fn enter_none(
     k: usize,
     j: usize,
 ) -> Explored
-    requires { ⌜ (graphWords ≤ length (now graph)) × (nodes ≤ mostNodes) × (actions ≤ 16) × (k < nodes) × (j < actions) × (edges ≤ k * actions + j) ⌝ }
+    requires { ⌜ (graphWords ≤ length (now graph)) × (nodes ≤ mostNodes) × (actions ≤ 16) × (k < nodes) × (j < actions) × (edges ≤ k * actions + j)
+        × Near (now graph) actions nodes ⌝ }
     ensures { λ r. ⌜ Turned (λ h. answered mostNodes h (From k j) None) (now (graph .entry)) actions nodes edges (k * actions + j) r (now (graph .exit))
         (k * actions + j + 1) ⌝ }
 {
@@ -157,7 +186,7 @@ pub fn enter(
     w: u32,
 ) -> Explored
     requires { ⌜ (graphWords ≤ length (now graph)) × (hintCount ≤ length (now hints)) × (nodes ≤ mostNodes) × (actions ≤ 16) × (k < nodes) × (j < actions)
-        × (edges ≤ k * actions + j) ⌝ }
+        × (edges ≤ k * actions + j) × Near (now graph) actions nodes ⌝ }
     ensures turn { λ r. ⌜ Turned (λ h. answered mostNodes h (From k j) (To w)) (now (graph .entry)) actions nodes edges (k * actions + j) r (now (graph .exit))
         (k * actions + j + 1) ⌝ }
     ensures hints { λ _. ⌜ hintCount ≤ length (now (hints .exit)) ⌝ }
@@ -174,8 +203,8 @@ pub fn enter(
         return Explored::Full;
     }
     let new = record_place(actions, nodes);
-    graph[new] = w;
-    graph[new + ORIGIN_OFFSET] = origin_word(k, j);
+    let parent = distance_at(&graph[..], actions, k);
+    store(&mut *graph, new, w, origin_word(k, j), parent + 1);
     graph[place] = edge_word(nodes);
     Explored::Whole(nodes + 1, edges + 1)
 }

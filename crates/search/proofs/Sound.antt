@@ -10,10 +10,11 @@ use borrow.Author.Tests.{ltb-true, ltb-false}
 use lib.ListN.{length, getD, List·getD-append}
 use lib.Seq.{getD-append-seam, getD-at}
 use lib.Dec.{ltb}
-use Rattle.search.specs.Search.{Answer, To, None, Origin, Root, From, Graph, Result, Done, Over, seek, empty, stored, linked, placed, rooted, begun, answered, acted, turns, nodeIf, node, visited, explored, count, nodeWord, origin, edge}
+use Rattle.search.specs.Search.{Answer, To, None, Origin, Root, From, Graph, Result, Done, Over, seek, empty, stored, linked, placed, rooted, begun, answered, acted, turns, nodeIf, node, visited, explored, count, nodeWord, origin, distanceBy, edge}
 use Rattle.search.proofs.Reach.{Reach, first, onward, Distinct, AllOf, Many}
 use Rattle.search.proofs.Grown.{len-more, more, Grown, stored-grown}
 use Rattle.search.proofs.Count.{lt-or-le, same-place, row-below, seek-found, seek-bound, seek-le}
+use Rattle.search.proofs.Distances.{Measured, Below, stored-measured}
 use Rattle.search.proofs.Numbered.{Numbered, empty-numbered, root-numbered, linked-numbered, new-numbered}
 
 abbrev pub Begins : List ℕ → Answer → Type 0
@@ -39,6 +40,7 @@ module _ (start : Answer) (next : ℕ → ℕ → Answer) (a : ℕ) where
 module _ (start : Answer) (next : ℕ → ℕ → Answer) (a limit : ℕ) where
   pub record Sound (g : Graph) : Type 0 where
     pub same : length (g .origins) ≡ count g
+    pub measured : Measured g
     pub few : count g ≤ limit
     pub begins : Begins (g .words) start
     pub distinct : Distinct (g .words)
@@ -50,6 +52,11 @@ module _ (start : Answer) (next : ℕ → ℕ → Answer) (a limit : ℕ) where
   abbrev pub Holds : (Graph → Type 0) → Result → Type 0
   Holds P (Done g) = P g
   Holds P Over = Many (Reach start next a) (suc limit)
+
+  -- the parent of a node comes before it
+  pub older : (ws : List ℕ) (i : ℕ) (o : Origin) → Comes start next a ws i o → Below i o
+  older ws i Root c = tt
+  older ws i (From p j) c = c .0
 
   module _ (g h : Graph) (gr : Grown g h) (i : ℕ) (b : i < count g) where
     comes-kept : (o : Origin) → Comes start next a (g .words) i o → Comes start next a (h .words) i o
@@ -119,6 +126,7 @@ module _ (start : Answer) (next : ℕ → ℕ → Answer) (a limit : ℕ) where
         let from : origin h (count g) ≡ o = getD-at (g .origins) o [] Root (count g) (s .same) in
         record {
           same = len-more (g .origins) o ∙ rw (s .same) (sym (len-more (g .words) w));
+          measured = stored-measured g (s .measured) (λ i b. older (g .words) i (origin g i) (s .comes i b)) k j w (s .same) here;
           few = omega (arith, len-more (g .words) w);
           begins = begins-kept g h gr k here start (s .begins);
           distinct = longer-list;
@@ -134,6 +142,7 @@ module _ (start : Answer) (next : ℕ → ℕ → Answer) (a limit : ℕ) where
   linked-sound : (k : ℕ) (g : Graph) → Sound g → (j : ℕ) → k < count g → j < a → length (g .edges) ≡ k * a + j → (e : Answer) → Leads next (g .words) k j e → Sound (linked g e)
   linked-sound k g s j here hj wide e l = record {
     same = s .same;
+    measured = s .measured;
     few = s .few;
     begins = s .begins;
     distinct = s .distinct;
@@ -242,9 +251,14 @@ module _ (start : Answer) (next : ℕ → ℕ → Answer) (a limit : ℕ) where
     root-comes zero h = (refl, is)
     root-comes (suc i) h = absurd (omega arith)
 
+    root-measured : (i : ℕ) → i < 1 → getD (0 ∷ []) i 0 ≡ distanceBy (0 ∷ []) (getD (Root ∷ []) i Root)
+    root-measured zero h = refl
+    root-measured (suc i) h = absurd (omega arith)
+
     root-sound : 0 < limit → Sound (stored empty Root w)
     root-sound h = record {
       same = refl;
+      measured = (refl, root-measured);
       few = h;
       begins = rw is (omega arith, refl);
       distinct = one-distinct;
@@ -260,6 +274,7 @@ module _ (start : Answer) (next : ℕ → ℕ → Answer) (a limit : ℕ) where
   empty-sound : start ≡ None → Sound empty
   empty-sound is = record {
     same = refl;
+    measured = (refl, λ i b. absurd (not-suc-le-zero b));
     few = omega arith;
     begins = rw is refl;
     distinct = λ i j b. absurd (not-suc-le-zero b);

@@ -4,6 +4,7 @@
 --     edge-is                            edge (i, j) is the number at which next (word i) j stands, none exactly if there is none
 --     at-most, over                      it is over exactly if there are more than limit distinct reached words
 --     later                              nodes are numbered in the order of finding
+--     measured                           node 0's distance is 0, any other's its parent's plus 1
 --     comes                              node 0 is the start's; any other has a parent with a smaller number, whose action is the first that leads to it
 use Prim.Native.Nat.{ℕ, suc, _*_, _<_, _≤_}
 use native.Mathlib.Omega.{arith}
@@ -15,6 +16,7 @@ use lib.ListN.{length}
 use Rattle.search.specs.Search.{Answer, To, None, Graph, Done, Over, seek, explored, count, nodeWord, origin, edge}
 use Rattle.search.proofs.Reach.{Reach, first, onward, Distinct, AllOf, Many}
 use Rattle.search.proofs.Count.{row-below, seek-found, seek-le, no-more}
+use Rattle.search.proofs.Distances.{Measured}
 use Rattle.search.proofs.Numbered.{Earlier}
 use Rattle.search.proofs.Sound.{Begins, Comes, Leads, Sound, Out, explored-holds}
 
@@ -33,6 +35,7 @@ numbered ws None = None
 pub record Whole (start : Answer) (next : ℕ → ℕ → Answer) (a limit : ℕ) (g : Graph) : Type 0 where
   pub within : count g ≤ limit
   pub origins-count : length (g .origins) ≡ count g
+  pub measured : Measured g
   pub edges-count : length (g .edges) ≡ count g * a
   pub begins : Begins (g .words) start
   pub stored-reached : AllOf (Reach start next a) (g .words)
@@ -126,6 +129,7 @@ module _ (start : Answer) (next : ℕ → ℕ → Answer) (a limit : ℕ) where
     whole = record {
       within = within;
       origins-count = origins-count;
+      measured = sound .measured;
       edges-count = edges-count;
       begins = begins;
       stored-reached = stored-reached;

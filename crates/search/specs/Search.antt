@@ -2,10 +2,11 @@
 --
 -- Answer          — a successor, or none
 -- Origin          — where a node was first found: at the start, or from a parent by an action
--- Graph           — three lists that only grow: each node's word, its origin, and its a edges (node i, action j at i * a + j)
+-- Graph           — four lists that only grow: each node's word, its origin, its distance, and its a edges (node i, action j at i * a + j)
 -- Result          — a graph, or one node too many
 -- pickN, seek     — the first place of a word among others, or their count
--- count, nodeWord, origin, edge — the nodes of a graph, and what belongs to one
+-- count, nodeWord, origin, distance, edge — the nodes of a graph, and what belongs to one
+-- distanceBy      — the distance of a node with this origin, given those of all nodes
 -- linksIn, links  — the number of edges that lead to a node
 -- empty, stored, linked     — no node; one node more; one edge more
 -- placed, rooted, begun, answered — the graph with a word looked up; with node 0; at the start; after one action's turn, given its answer
@@ -28,6 +29,7 @@ pub data Origin : Type 0 where
 pub record Graph : Type 0 where
   pub words : List ℕ
   pub origins : List Origin
+  pub distances : List ℕ
   pub edges : List Answer
 
 pub data Result : Type 0 where
@@ -51,6 +53,14 @@ nodeWord g i = getD (g .words) i 0
 abbrev pub origin : Graph → ℕ → Origin
 origin g i = getD (g .origins) i Root
 
+abbrev pub distance : Graph → ℕ → ℕ
+distance g i = getD (g .distances) i 0
+
+-- Request 6: 0 for node 0, and the parent's plus 1 for others.
+abbrev pub distanceBy : List ℕ → Origin → ℕ
+distanceBy ds Root = 0
+distanceBy ds (From p j) = suc (getD ds p 0)
+
 abbrev pub edge : ℕ → Graph → ℕ → ℕ → Answer
 edge a g i j = getD (g .edges) (i * a + j) None
 
@@ -63,13 +73,18 @@ abbrev pub links : Graph → ℕ
 links g = linksIn (g .edges)
 
 abbrev pub empty : Graph
-empty = record { words = []; origins = []; edges = [] }
+empty = record { words = []; origins = []; distances = []; edges = [] }
 
 abbrev pub stored : Graph → Origin → ℕ → Graph
-stored g o w = record { words = g .words ++ (w ∷ []); origins = g .origins ++ (o ∷ []); edges = g .edges }
+stored g o w = record {
+  words = g .words ++ (w ∷ []);
+  origins = g .origins ++ (o ∷ []);
+  distances = g .distances ++ (distanceBy (g .distances) o ∷ []);
+  edges = g .edges;
+}
 
 abbrev pub linked : Graph → Answer → Graph
-linked g e = record { words = g .words; origins = g .origins; edges = g .edges ++ (e ∷ []) }
+linked g e = record { words = g .words; origins = g .origins; distances = g .distances; edges = g .edges ++ (e ∷ []) }
 
 -- the first test: is w stored already; the second: is there room for one more; a new word is sought to the length, its number
 abbrev pub placed : Bool → Bool → Graph → Origin → ℕ → ℕ → Result

@@ -22,7 +22,7 @@ pub data Survey : Type 0 where
   stops : Refusal → List ℕ → Survey
   draws : Program → List Lemma → Graph → List ℕ → Survey
 
--- Refusal 7 zeroes the first 9,216 words of the graph list; the others leave it.
+-- Refusal 7 zeroes the first 9,728 words of the graph list; the others leave it.
 abbrev pub surveyGraph : Program → List Lemma → Result → List ℕ → Survey
 surveyGraph p ls Over gl = stops Nodes (graphList (length (p .actions)) Over gl)
 surveyGraph p ls (Done g) gl = draws p ls g (graphList (length (p .actions)) (Done g) gl)

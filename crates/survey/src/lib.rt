@@ -41,7 +41,7 @@ fn stopped(image: Image, why: Refusal) -> Surveyed
     }
 }
 
-// A show read, its lemmas weighed and its graph explored, into the first 9,216 words of a list that is long enough; or the refusal that is due.
+// A show read, its lemmas weighed and its graph explored, into the first 9,728 words of a list that is long enough; or the refusal that is due.
 pub fn survey(words: &[u32], lemmas: &[u32], graph: &mut [u32]) -> Surveyed
     requires { ⌜ graphWords ≤ length (now graph) ⌝ }
     ensures { λ r. ⌜ SurveyOf (now (words .entry)) (now (lemmas .entry)) (now (graph .entry)) (now (graph .exit)) r ⌝ }

@@ -6,7 +6,7 @@
 -- mostMultiplier           — how large a lemma's multipliers may be
 -- START                    — the source that stands for the start
 -- mostLemmas, mostNodes    — how many lemmas a list may have; how many nodes a graph
--- header                   — how many words of a node's record come before its edges: its literals and its origin
+-- header                   — how many words of a node's record come before its edges: its literals, its origin and its distance
 -- graphWords, pathWords    — how many words the records of a graph have room in, and the steps of a path
 -- mostFindings             — how many findings a graph may have: at each node its combinations, and both ends of each variable that its actions set
 use Prim.Native.Nat.{ℕ, _+_, _*_}
@@ -53,7 +53,7 @@ abbrev pub mostNodes : ℕ
 mostNodes = 512
 
 abbrev pub header : ℕ
-header = 2
+header = 3
 
 abbrev pub graphWords : ℕ
 graphWords = mostNodes * (header + mostActions)

@@ -4,7 +4,7 @@
 -- kindOf     — the kind, bits 31 to 28
 -- payload    — the payload, bits 27 to 0
 -- word       — the word of a kind and a payload
--- VAR .. END — the kinds
+-- DISTANCE, VAR .. END — the kinds
 -- noNode, noParent — the payload of an EDGE that names no successor; that of node 0's ORIGIN
 -- signedBy, signed — the number that a field stands for, in two's complement
 -- unsigned   — the bits of a number
@@ -29,6 +29,9 @@ payload w = w % 2 ^ 28
 
 abbrev pub word : ℕ → ℕ → ℕ
 word kind p = kind * 2 ^ 28 + p
+
+abbrev pub DISTANCE : ℕ
+DISTANCE = 0
 
 abbrev pub VAR : ℕ
 VAR = 1

@@ -22,6 +22,8 @@ const PAYLOADS: u32 = 268435456;
 pub struct Kind(pub u32);
 
 impl Kind {
+    pub const DISTANCE: Kind = Kind(0);
+
     pub const VAR: Kind = Kind(1);
 
     pub const ROW: Kind = Kind(2);

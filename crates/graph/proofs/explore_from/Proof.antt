@@ -26,7 +26,7 @@ loop-holds c = let a = c .before .before .before .before .before .before .before
     (first-node (nextOf (entries (a .premises .now) (a .keys .now) (a .n)) (a .kept .now)) (a .actions) (a .start) (a .graph .now) _ (c .before .before .begin .ensures) (omega arith), refl)
 
 turn-requires : tie.Need-turn-requires Inv-loop μ-loop
-turn-requires c κs = search needs
+turn-requires c κs = (search needs, search needs, search needs, search needs, search needs, search needs, search needs, search needs, search needs, c .before .before .before .loop .inv .0 .near)
 
 enum-known-r : tie.Need-enum-known-r Inv-loop μ-loop
 enum-known-r c = search needs

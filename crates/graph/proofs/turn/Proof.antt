@@ -27,7 +27,7 @@ gather-all-requires c κs = search needs
 
 loop-holds : tie.Need-loop-holds Inv-loop μ-loop
 loop-holds c = let a = c .before .before .before .before .before .before .before .before .before .args in
-    (begun (nextOf (entries (a .premises .now) (a .keys .now) (a .n)) (a .kept .now)) (a .graph .now) (a .nodes) (a .edges) (a .k) (a .actions) (omega arith) (omega arith), refl)
+    (begun (nextOf (entries (a .premises .now) (a .keys .now) (a .n)) (a .kept .now)) (a .graph .now) (a .nodes) (a .edges) (a .k) (a .actions) (omega arith) (omega arith) (c .before .before .before .before .before .before .before .before .before .pre .9), refl)
 
 mul-act : tie.Need-mul-act Inv-loop μ-loop
 mul-act c = search needs
@@ -36,7 +36,7 @@ array-read-act : tie.Need-array-read-act Inv-loop μ-loop
 array-read-act c = search needs
 
 act-requires : tie.Need-act-requires Inv-loop μ-loop
-act-requires c κs = search needs
+act-requires c κs = (search needs, search needs, search needs, search needs, search needs, search needs, search needs, c .before .before .before .loop .inv .0 .near)
 
 enum-known-r : tie.Need-enum-known-r Inv-loop μ-loop
 enum-known-r c = search needs

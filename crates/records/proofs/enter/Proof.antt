@@ -1,7 +1,8 @@
 -- Each of the three ways through is a law: known, full, fresh.
+use Prim.Native.Nat.{_+_, _<_}
 use native.Mathlib.Omega.{arith}
 use lib.ListN.{length-set}
-use Rattle.search.specs.Search.{From}
+use Rattle.records.specs.Records.{mostNodes}
 use Rattle.records.proofs.Stores.{known, full, fresh}
 use borrow.Author.Needs.{needs}
 use Rattle.records.proofs.enter.Statement.{statement}
@@ -34,8 +35,8 @@ mul-graph c = search needs
 slice-write-graph : tie.Need-slice-write-graph
 slice-write-graph c = search needs
 
-add-t22 : tie.Need-add-t22
-add-t22 c = search needs
+add-t23 : tie.Need-add-t23
+add-t23 c = search needs
 
 same-length : tie.Need-same-length
 same-length c = search needs
@@ -49,7 +50,7 @@ returns c =
     let q = p .before .before .before .before .before in
     let a = q .args in
     rw (c .before .before .edge-place .ensures .0)
-    (known (a .graph .now) (a .actions) (a .nodes) (a .edges) (a .k) (a .j) (omega arith) (omega arith) (omega arith) (omega arith) (omega arith) (omega arith) (From (a .k) (a .j)) (a .w) (c .edge-word .result) (p .find .result) (p .find .ensures .1) (c .before .if1 .taken) (c .edge-word .ensures), simp length-set (omega arith))
+    (known (a .graph .now) (a .actions) (a .nodes) (a .edges) (a .k) (a .j) (omega arith) (omega arith) (omega arith) (omega arith) (omega arith) (omega arith) (q .pre .7) (a .w) (c .edge-word .result) (p .find .result) (p .find .ensures .1) (c .before .if1 .taken) (c .edge-word .ensures), simp length-set (omega arith))
 
 same-length-3 : tie.Need-same-length-3
 same-length-3 c = search needs
@@ -62,10 +63,33 @@ returns-2 c =
     let p = c .before .before .before .before in
     let q = p .before .before .before .before .before in
     let a = q .args in
-    (full (a .graph .now) (a .actions) (a .nodes) (a .edges) (a .k) (a .j) (omega arith) (omega arith) (omega arith) (omega arith) (omega arith) (omega arith) (From (a .k) (a .j)) (a .w) (p .find .result) (p .find .ensures .1) (c .before .if1 .left) (c .if2 .taken), simp length-set (omega arith))
+    (full (a .graph .now) (a .actions) (a .nodes) (a .edges) (a .k) (a .j) (omega arith) (omega arith) (omega arith) (omega arith) (omega arith) (omega arith) (q .pre .7) (a .w) (p .find .result) (p .find .ensures .1) (c .before .if1 .left) (c .if2 .taken), simp length-set (omega arith))
 
 record-place-requires : tie.Need-record-place-requires
 record-place-requires c κs = search needs
+
+distance-at-requires : tie.Need-distance-at-requires
+distance-at-requires c κs = search needs
+
+origin-word-requires : tie.Need-origin-word-requires
+origin-word-requires c κs = search needs
+
+-- the parent's distance is at most its number, which is below the new node's
+few : (c : tie.After-origin-word) → c .before .before .distance-at .result + 1 < mostNodes
+few c =
+    let d = c .before .before in
+    let p = d .before .before .before in
+    let u = p .before .before .before .before .before .before .before .before .before in
+    omega (arith, u .pre .7 (u .args .k) (omega arith), d .distance-at .ensures, p .if2 .left)
+
+add-store : tie.Need-add-store
+add-store c = omega (arith, few c)
+
+store-requires : tie.Need-store-requires
+store-requires c κs = (search needs, few c)
+
+edge-word-requires-2 : tie.Need-edge-word-requires-2
+edge-word-requires-2 c κs = search needs
 
 mul-graph-2 : tie.Need-mul-graph-2
 mul-graph-2 c = search needs
@@ -73,32 +97,11 @@ mul-graph-2 c = search needs
 slice-write-graph-2 : tie.Need-slice-write-graph-2
 slice-write-graph-2 c = search needs
 
-origin-word-requires : tie.Need-origin-word-requires
-origin-word-requires c κs = search needs
+add-t19 : tie.Need-add-t19
+add-t19 c = search needs
 
-add-graph : tie.Need-add-graph
-add-graph c = search needs
-
-mul-graph-3 : tie.Need-mul-graph-3
-mul-graph-3 c = search needs
-
-slice-write-graph-3 : tie.Need-slice-write-graph-3
-slice-write-graph-3 c = simp length-set (omega arith)
-
-edge-word-requires-2 : tie.Need-edge-word-requires-2
-edge-word-requires-2 c κs = search needs
-
-mul-graph-4 : tie.Need-mul-graph-4
-mul-graph-4 c = search needs
-
-slice-write-graph-4 : tie.Need-slice-write-graph-4
-slice-write-graph-4 c = simp length-set (omega arith)
-
-add-t18 : tie.Need-add-t18
-add-t18 c = search needs
-
-add-t26 : tie.Need-add-t26
-add-t26 c = search needs
+add-t33 : tie.Need-add-t33
+add-t33 c = search needs
 
 same-length-5 : tie.Need-same-length-5
 same-length-5 c = search needs
@@ -108,14 +111,19 @@ same-length-6 c = search needs
 
 returns-3 : tie.Need-returns-3
 returns-3 c =
-    let p = c .before .before .before in
+    let t = c .before .before .before in
+    let d = t .before .before .before in
+    let n = d .before .before in
+    let p = n .before in
     let q = p .before in
     let r = q .before in
     let s = r .before .before in
-    let t = s .before .before .before .before .before in
-    let a = t .args in
-    rw (r .edge-place .ensures .0, c .before .before .record-place .ensures .0)
-    (fresh (a .graph .now) (a .actions) (a .nodes) (a .edges) (a .k) (a .j) (omega arith) (omega arith) (omega arith) (omega arith) (omega arith) (omega arith) (From (a .k) (a .j)) (a .w) (c .edge-word2 .result) (c .before .origin-word .result) (s .find .result) (s .find .ensures .1) (q .if1 .left) (omega (arith, p .if2 .left)) (c .before .origin-word .ensures) (c .edge-word2 .ensures), simp length-set (omega arith))
+    let u = s .before .before .before .before .before in
+    let a = u .args in (
+      rw (t .store .ensures, r .edge-place .ensures .0, n .record-place .ensures .0)
+          (fresh (a .graph .now) (a .actions) (a .nodes) (a .edges) (a .k) (a .j) (omega arith) (omega arith) (omega arith) (omega arith) (omega arith) (omega arith) (u .pre .7) (a .w) (c .edge-word2 .result) (t .before .origin-word .result) (d .distance-at .result) (s .find .result) (s .find .ensures .1) (q .if1 .left) (omega (arith, p .if2 .left)) (t .before .origin-word .ensures) (d .distance-at .ensures) (c .edge-word2 .ensures)),
+      simp length-set (omega arith),
+    )
 
 pub enter-spec : {M : Type 1} → statement M
 enter-spec =
@@ -130,7 +138,7 @@ enter-spec =
     edge-word-requires
     mul-graph
     slice-write-graph
-    add-t22
+    add-t23
     same-length
     same-length-2
     returns
@@ -138,17 +146,15 @@ enter-spec =
     same-length-4
     returns-2
     record-place-requires
+    distance-at-requires
+    origin-word-requires
+    add-store
+    store-requires
+    edge-word-requires-2
     mul-graph-2
     slice-write-graph-2
-    origin-word-requires
-    add-graph
-    mul-graph-3
-    slice-write-graph-3
-    edge-word-requires-2
-    mul-graph-4
-    slice-write-graph-4
-    add-t18
-    add-t26
+    add-t19
+    add-t33
     same-length-5
     same-length-6
     returns-3)

@@ -25,7 +25,7 @@ returns c =
     let p = c .before in
     let a = p .before .before .args in
     rw (p .edge-place .ensures .0)
-    (none (a .graph .now) (a .actions) (a .nodes) (a .edges) (a .k) (a .j) (omega arith) (omega arith) (omega arith) (omega arith) (omega arith) (omega arith) (From (a .k) (a .j)) (c .word .result) (c .word .ensures))
+    (none (a .graph .now) (a .actions) (a .nodes) (a .edges) (a .k) (a .j) (omega arith) (omega arith) (omega arith) (omega arith) (omega arith) (omega arith) (p .before .before .pre .6) (c .word .result) (c .word .ensures))
 
 pub enter-none-spec : {M : Type 1} → statement M
 enter-none-spec =
