@@ -96,6 +96,8 @@ struct Node {
     literals: Literals,
     /// Where it was first found: parent and action; None for node 0.
     origin: Option<(usize, usize)>,
+    /// Request 6: "that distance: 0 for node 0, and the parent's plus 1 for others."
+    distance: usize,
     edges: Vec<Option<usize>>,
 }
 
@@ -111,7 +113,7 @@ fn explore(shelf: &Shelf) -> Result<Vec<Node>, Refusal> {
         None => return Ok(nodes),
         Some(literals) => {
             known.insert(literals, 0);
-            nodes.push(Node { literals, origin: None, edges: Vec::new() });
+            nodes.push(Node { literals, origin: None, distance: 0, edges: Vec::new() });
         }
     }
     let mut at = 0;
@@ -129,7 +131,8 @@ fn explore(shelf: &Shelf) -> Result<Vec<Node>, Refusal> {
                         }
                         let node = nodes.len();
                         known.insert(next, node);
-                        nodes.push(Node { literals: next, origin: Some((at, action)), edges: Vec::new() });
+                        let (origin, distance) = (Some((at, action)), nodes[at].distance + 1);
+                        nodes.push(Node { literals: next, origin, distance, edges: Vec::new() });
                         Some(node)
                     }
                 },
@@ -143,7 +146,8 @@ fn explore(shelf: &Shelf) -> Result<Vec<Node>, Refusal> {
 }
 
 /// "A node's record is SETS, ORIGIN (where it was first found) and one EDGE per action. Records
-/// follow each other; the rest of the first 9,216 words is zero."
+/// follow each other; the rest of the first [9,728] words is zero." Request 6: "Each record gets a third
+/// word after ORIGIN, of kind 0, whose payload is that distance".
 fn write_graph(nodes: &[Node], graph: &mut [u32]) {
     let mut at = 0;
     for node in nodes {
@@ -152,6 +156,7 @@ fn write_graph(nodes: &[Node], graph: &mut [u32]) {
             None => make(ORIGIN, 0x1FFF), // "bits 12..0 all ones for node 0"
             Some((parent, action)) => make(ORIGIN, (parent << 4 | action) as u32),
         };
+        graph[at + 2] = make(DISTANCE, node.distance as u32);
         at += HEADER;
         for edge in &node.edges {
             graph[at] = match edge {
@@ -225,7 +230,7 @@ impl Whole {
         let program = program::read(words)?;
         let lemmas = lemma::read(&program, lemma_words)?;
         let shelf = Shelf::fill(&program, &lemmas)?;
-        // "path list [left]; first 9,216 graph words become zero"
+        // "path list [left]; first [9,728] graph words become zero"
         let nodes = explore(&shelf).inspect_err(|_| graph[..GRAPH_WORDS].fill(0))?;
         write_graph(&nodes, graph);
         Ok(Whole { program, shelf, nodes })
@@ -300,7 +305,7 @@ impl Whole {
     }
 }
 
-/// Judge: "1 graph, 1 path, 2 to 4, 5 and 6, 11, 7."
+/// Judge: "1 graph, 1 path, 2 to 4, 5 and 6, 11, 7." Request 6: "refusal 1 uses the new length."
 pub fn judge(words: &[u32], lemma_words: &[u32], graph: &mut [u32], path: &mut [u32]) -> Judged {
     if graph.len() < GRAPH_WORDS {
         return Judged::Refused(Refusal { number: 1, value: 0 });
@@ -316,7 +321,7 @@ pub fn judge(words: &[u32], lemma_words: &[u32], graph: &mut [u32], path: &mut [
 
 /// Request 2: "The call takes program, lemmas, a graph list and this list, fills the graph list as judge
 /// does, and refuses as judge does but for the path; those refusals leave this list." Then 12, which "comes
-/// after 7 [...] and keeps the graph".
+/// after 7 [...] and keeps the graph". Request 6: "The view and the findings list read the new record."
 pub fn findings(words: &[u32], lemma_words: &[u32], graph: &mut [u32], list: &mut [u32]) -> Listed {
     if graph.len() < GRAPH_WORDS {
         return Listed::Refused(Refusal { number: 1, value: 0 });

@@ -1,9 +1,10 @@
 //! An independent implementation of document 01, "Show logic, lemmas and the abstract state graph",
-//! with requests 1, 2, 4 and 5 of document 02, "Untouched predicates keep their literal", "Every finding on
-//! the sheet", "The rack's sixteen bits" and "How near was it". Request 3, "Read a row once", changes no
-//! answer.
+//! with requests 1, 2, 4, 5 and 6 of document 02, "Untouched predicates keep their literal", "Every finding
+//! on the sheet", "The rack's sixteen bits", "How near was it" and "Distance in the node record". Request 3,
+//! "Read a row once", changes no answer.
 
 pub mod bytes;
+pub mod drawing;
 pub mod judge;
 pub mod lemma;
 pub mod program;
@@ -161,6 +162,8 @@ pub fn ask(words: &[u32], lemma_words: &[u32], k: usize) -> Asked {
 
 /// "A reading view over the finished graph list answers the successor for a node and an action,
 /// which is the payload of that EDGE word, all ones being none." View: 3, 1, 8 node, 8 action, 2.
+/// Request 6: "The view and the findings list read the new record." Only the EDGE word asked for is tested;
+/// the view does not look at the distance.
 pub fn successor(
     graph: &[u32],
     nodes: usize,

@@ -12,7 +12,8 @@ use crate::{findings, Listed, Refusal};
 pub const MOST_FINDINGS: usize = MAX_NODES * (MAX_FORBIDDEN + MAX_ACTIONS * MAX_VARIABLES * 2);
 
 /// The ORIGIN words of the graph list, by node. "A node's record is SETS, ORIGIN (where it was first found)
-/// and one EDGE per action. Records follow each other; the rest of the first 9,216 words is zero."
+/// and one EDGE per action. Records follow each other; the rest of the first [9,728] words is zero." Request
+/// 6: "a third word after ORIGIN, of kind 0", which is no ORIGIN and no EDGE.
 fn origins(graph: &[u32]) -> Vec<u32> {
     graph.iter().copied().filter(|word| kind(*word) == ORIGIN).collect()
 }
@@ -71,6 +72,11 @@ fn listed_lines(list: &[u32], graph: &[u32]) -> String {
     sentences.join("\n")
 }
 
+/// The line of a show that is refused.
+pub(crate) fn refused_line(refusal: Refusal) -> String {
+    format!("refused {} AT {}", refusal.number, refusal.value)
+}
+
 /// The lines of the words of a show file. "the first word of kind 15 ends the logic, the rest are lemmas;
 /// without one, all words are logic."
 fn show_lines(words: &[u32]) -> String {
@@ -79,21 +85,29 @@ fn show_lines(words: &[u32]) -> String {
     let mut list = vec![0; MOST_FINDINGS];
     match findings(logic, lemmas, &mut graph, &mut list) {
         Listed::Listed(count) => listed_lines(&list[..count], &graph),
-        Listed::Refused(Refusal { number, value }) => format!("refused {number} AT {value}"),
+        Listed::Refused(refusal) => refused_line(refusal),
     }
 }
 
-/// The lines that the program prints for these bytes, each ending in one newline: as in 01's program "first
-/// of all" whether they are too many, then whether "the length is no multiple of 4".
+/// The words of a show file, or the line for bytes that are none: as in 01's program "first of all" whether
+/// they are too many, then whether "the length is no multiple of 4".
+pub(crate) fn show_words(bytes: &[u8]) -> Result<Vec<u32>, String> {
+    if bytes.len() > SHOW_BYTES {
+        return Err("too long: more than 65,536 bytes".to_string());
+    }
+    if bytes.len() % 4 != 0 {
+        return Err("odd bytes: the file was cut".to_string());
+    }
+    let mut words = vec![0; bytes.len() / 4];
+    put_words(bytes, &mut words);
+    Ok(words)
+}
+
+/// The lines that the program prints for these bytes, each ending in one newline.
 pub fn findings_lines(bytes: &[u8]) -> String {
-    let text = if bytes.len() > SHOW_BYTES {
-        "too long: more than 65,536 bytes".to_string()
-    } else if bytes.len() % 4 != 0 {
-        "odd bytes: the file was cut".to_string()
-    } else {
-        let mut words = vec![0; bytes.len() / 4];
-        put_words(bytes, &mut words);
-        show_lines(&words)
+    let text = match show_words(bytes) {
+        Ok(words) => show_lines(&words),
+        Err(line) => line,
     };
     text + "\n"
 }

@@ -4,6 +4,7 @@
 use crate::program::{Literals, Program};
 use crate::records::{Record, ASK, FINDINGS, JUDGE};
 use crate::words::*;
+use crate::Refusal;
 
 #[derive(Clone, Debug)]
 pub struct Case {
@@ -354,7 +355,9 @@ pub fn cases() -> Vec<Case> {
     verdicts(&mut book);
     request_1(&mut book);
     random(&mut book);
+    request_6(&mut book);
     request_2(&mut book);
+    request_6_findings(&mut book);
     book.cases
 }
 
@@ -1316,10 +1319,10 @@ fn graphs(book: &mut Book) {
     let (p, l) = subsets(10, 10);
     book.judge("1024 nodes", &p, &l, "REFUSED 7 AT 512");
     book.judge_with("1024 nodes, longer lists", &p, &l, GRAPH + 84, PATH + 88, "REFUSED 7 AT 512");
-    // 16 actions: the last seven lead to the empty set, which is node 0; 9,216 words in use.
+    // 16 actions: the last seven lead to the empty set, which is node 0; 9,728 words in use.
     let (t, l) = subsets_text(9, 16);
-    book.judge("512 nodes of 18 words", &t.words(), &l, "SAFE nodes 512 edges 8192");
-    book.judge_with("512 nodes of 18 words, longer", &t.words(), &l, GRAPH + 1, PATH + 1, "SAFE nodes 512 edges 8192");
+    book.judge("512 nodes of 19 words", &t.words(), &l, "SAFE nodes 512 edges 8192");
+    book.judge_with("512 nodes of 19 words, longer", &t.words(), &l, GRAPH + 1, PATH + 1, "SAFE nodes 512 edges 8192");
     // The same with action 15 impossible (goal 0) everywhere: one edge fewer for each node.
     let mut l0 = l.clone();
     l0.extend(t.forced(15, 0, 0, 0, 0));
@@ -2776,4 +2779,360 @@ fn findings_by_chance(book: &mut Book) {
         let (t, l) = sheet(seed);
         book.findings(&format!("sheet {seed}"), &t.words(), &l, 40, "");
     }
+}
+
+// ---------------------------------------------------------------------------------------------
+// Request 6: distance in the node record
+
+/// The least length of the graph list before request 6: "9,728 words, which replaces 9,216 throughout 01".
+pub const OLD_GRAPH: u32 = 9_216;
+
+fn request_6(book: &mut Book) {
+    rooms(book);
+    rooms_before_faults(book);
+    zeroed_rooms(book);
+    rings(book);
+    chains(book);
+    rings_by_chance(book);
+}
+
+/// The records of Findings stand behind all others.
+fn request_6_findings(book: &mut Book) {
+    findings_rooms(book);
+    zeroed_findings_rooms(book);
+    let (t, l) = all_at_once(&[(0, 0)]);
+    book.findings("rings, the empty combination at five nodes", &t.words(), &l, 6, &found(5));
+}
+
+/// "refusal 1 uses the new length": the old room, one word less and one more, are too short. One word short
+/// of the new room and exactly that: `short_lists` and `worked`.
+fn rooms(book: &mut Book) {
+    let short = "REFUSED 1 AT 0";
+    for (graph, path, hand) in [
+        (OLD_GRAPH - 1, PATH, short),
+        (OLD_GRAPH, PATH, short),
+        (OLD_GRAPH + 1, PATH, short),
+        (OLD_GRAPH, PATH - 1, short),
+        (GRAPH + 1, PATH, "SAFE nodes 1 edges 2"),
+    ] {
+        book.judge_with(&format!("room {graph}/{path}, fade"), &FADE, &FADE_LEMMAS, graph, path, hand);
+    }
+    let name = format!("room {OLD_GRAPH}/{PATH}, house");
+    book.judge_with(&name, &house().words(), &house_lemmas().concat(), OLD_GRAPH, PATH, short);
+    // 512 nodes with 16 actions fill the new room to its last word (`kept_graphs`).
+    let (t, l) = kept_subsets(9, 16);
+    book.judge_with(&format!("room {OLD_GRAPH}/{PATH}, 512 nodes"), &t.words(), &l, OLD_GRAPH, PATH, short);
+}
+
+/// 1,024 nodes: a 513th is needed.
+fn too_many() -> (Vec<u32>, Vec<u32>) {
+    let (t, l) = switches(10, &vec![vec![]; 10], &[]);
+    (t.words(), l)
+}
+
+/// At the old room 1 comes before 2, 5 and 7.
+fn rooms_before_faults(book: &mut Book) {
+    let (wide, tens) = too_many();
+    let bad_lemma = [make(MULT, 0)];
+    let faults: [(&str, &[u32], &[u32]); 3] =
+        [("empty program", &[], &[]), ("bad lemma", &FADE, &bad_lemma), ("513 nodes", &wide, &tens)];
+    for (name, p, l) in faults {
+        book.judge_with(&format!("room {OLD_GRAPH}/{PATH}, {name}"), p, l, OLD_GRAPH, PATH, "REFUSED 1 AT 0");
+    }
+}
+
+/// Refusal 7: "first [9,728] graph words become zero". The lists are lent with no zero, so that those before
+/// the last word of the room and those behind it show.
+fn zeroed_rooms(book: &mut Book) {
+    let (p, l) = too_many();
+    for graph in [GRAPH, GRAPH + 1, GRAPH + 2] {
+        book.judge_with(&format!("room {graph}/{PATH}, 7"), &p, &l, graph, PATH, "REFUSED 7 AT 512");
+    }
+}
+
+/// Four predicates that are kept. Actions 0, 1 and 2 show P0, P1 where P0 holds, P2 where P1 holds; action 3
+/// shows all four. 0 {} goes to 1 {P0}, 0, 0, 2 (all); 1 to 1, 3 {P0, P1}, 1, 2; 2 to itself; 3 to 3, 3, 4
+/// {P0, P1, P2}, 2; 4 to 4, 4, 4, 2. Distances 0, 1, 1, 2, 3.
+pub fn all_at_once(bad: &[(u32, u32)]) -> (Text, Vec<u32>) {
+    let t = at_will(4, &vec![vec![]; 4], bad);
+    let steps = [t.forced(0, 1, 0, 0, 0), t.forced(1, 1, 1, 0, 1), t.forced(2, 1, 2, 0, 2)].concat();
+    let all: Vec<u32> = (0..4).flat_map(|i| t.forced(3, 1, i, 0, 0)).collect();
+    let l = [steps, all].concat();
+    (t, l)
+}
+
+/// Three predicates that fail at the start, each on its own variable. Action 0 loses the first literal, 1 the
+/// second where the first is lost, 2 the third where the second is lost; action 3 loses the first two. 0 (all
+/// three) goes to 1 (the last two), 0, 0, 2 (the last); 1 to 1, 2, 1, 2; 2 to 2, 2, 3 (none), 2; 3 to itself.
+/// Distances 0, 1, 1, 2. That all hold is contradicted but at node 3. Path 3 2.
+pub fn two_ways() -> (Text, Vec<u32>) {
+    let mut t = at_will(0, &[vec![0], vec![1], vec![2], vec![0, 1]], &[(0, 7)]);
+    t.pred = (0..3).map(|v| on(&[v])).collect();
+    let start: Vec<u32> = (0..3).flat_map(|i| t.forced(START, 2, i, 0, 0)).collect();
+    let kept = [t.forced(1, 2, 1, 3, 0), t.forced(2, 2, 2, 6, 0)].concat();
+    let l = [start, kept, t.all_ends()].concat();
+    (t, l)
+}
+
+/// Two times `side` predicates that are kept. Action 0 shows the next of the first ones, action 1 the next of
+/// the others: a node for each pair of numbers up to `side`. The distance is the sum of the two.
+pub fn grid(side: u32) -> (Text, Vec<u32>) {
+    let t = at_will(2 * side as usize, &[vec![], vec![]], &[]);
+    let next = |action: u32, i: u32| {
+        let index = action * side + i;
+        t.forced(action, 1, index, 0, if i == 0 { 0 } else { 1 << (index - 1) })
+    };
+    let l = (0..2).flat_map(|action| (0..side).flat_map(move |i| next(action, i))).collect();
+    (t, l)
+}
+
+/// `top` predicates that are kept. Action 0 shows the next one, action 1 the next two: node n has the first
+/// n, and the distance is n / 2, rounded up.
+pub fn by_two(top: u32) -> (Text, Vec<u32>) {
+    let t = at_will(top as usize, &[vec![], vec![]], &[]);
+    let before = |i: u32, steps: u32| if i < steps { 0 } else { 1 << (i - steps) };
+    let shown = |action: u32, i: u32| t.forced(action, 1, i, 0, before(i, action + 1));
+    let l = (0..2).flat_map(|action| (0..top).flat_map(move |i| shown(action, i))).collect();
+    (t, l)
+}
+
+/// Graphs whose distances are not the node numbers.
+fn rings(book: &mut Book) {
+    let (t, l) = all_at_once(&[]);
+    book.judge("rings, all at once", &t.words(), &l, "SAFE nodes 5 edges 20");
+    let (t, l) = two_ways();
+    book.judge("rings, two ways", &t.words(), &l, "FORBID node 3 bad 0 nodes 4 edges 16");
+    let (t, l) = grid(7);
+    book.judge("rings, grid", &t.words(), &l, "SAFE nodes 64 edges 128");
+    let (t, l) = by_two(6);
+    book.judge("rings, by two", &t.words(), &l, "SAFE nodes 7 edges 14");
+}
+
+/// 16 actions, of which action 15 shifts a register of nine bits (P0 to P8): each bit takes the value of the
+/// one before it, bit 0 that of "bit 8 or bit 4, not both". From bit 0 alone it comes back after 511 steps
+/// (x^9 + x^5 + 1 is primitive); the last set before is bit 8 alone, which is forbidden. One more action
+/// makes one set of bits, given as a number, from everywhere; the other 14 cannot happen. The ends are shown.
+fn register(predicates: usize, maker: u32, bits: u32) -> (Text, Vec<u32>) {
+    let acting = |action: u32| action == maker || action == 15;
+    let t = Text {
+        vars: vec![(0, 0)],
+        init: vec![never()],
+        pred: vec![row(0, &[(0, 1)]); predicates],
+        actions: (0..16).map(|action| shut(if acting(action) { &[0] } else { &[] })).collect(),
+        bad: vec![(0x0FF, 0x100)],
+    };
+    let mut l = t.all_ends();
+    l.extend((0..16).filter(|action| !acting(*action)).flat_map(|action| t.forced(action, 0, 0, 0, 0)));
+    l.extend((0..9).flat_map(|i| t.forced(maker, if bits >> i & 1 == 1 { 1 } else { 2 }, i, 0, 0)));
+    for i in 0..8 {
+        l.extend([t.forced(15, 1, i + 1, 0, 1 << i), t.forced(15, 2, i + 1, 1 << i, 0)].concat());
+    }
+    for (goal, f, holds) in [(1, 0x010, 0x100), (1, 0x100, 0x010), (2, 0, 0x110), (2, 0x110, 0)] {
+        l.extend(t.forced(15, goal, 0, f, holds));
+    }
+    (t, l)
+}
+
+/// 512 nodes of 19 words, each one step farther than the last. The start is {P9}, where 15 cannot happen; 0
+/// makes bit 0 alone, which is node 1. Path 0, then 510 times 15.
+pub fn long_chain() -> (Text, Vec<u32>) {
+    let (mut t, mut l) = register(10, 0, 0x001);
+    t.bad[0].0 |= 0x200; // P9 contradicts it at node 0
+    l.extend([t.forced(START, 1, 9, 0, 0), t.forced(15, 0, 0, 0, 0x200)].concat());
+    (t, l)
+}
+
+/// The start is bit 0 alone. Action 7 makes the set of no bits from everywhere, node 1, which 15 leaves as it
+/// is: from node 2 on the distance is one less than the number. Path 510 times 15.
+pub fn chain_beside() -> (Text, Vec<u32>) {
+    let (t, mut l) = register(9, 7, 0x000);
+    l.extend((0..9).flat_map(|i| t.forced(START, if i == 0 { 1 } else { 2 }, i, 0, 0)));
+    (t, l)
+}
+
+/// The greatest distances. 512 nodes in a row with one action: `graphs`, "counter 9".
+fn chains(book: &mut Book) {
+    let (t, l) = long_chain();
+    let hand = "FORBID node 511 bad 0 nodes 512 edges 1023";
+    book.judge("chain of 511 steps, 16 actions", &t.words(), &l, hand);
+    let (t, l) = chain_beside();
+    let hand = "FORBID node 511 bad 0 nodes 512 edges 1024";
+    book.judge("chain beside a node, 16 actions", &t.words(), &l, hand);
+}
+
+/// Predicates that are kept and actions that show some of them by chance, most where another is known.
+pub fn ringed(seed: u64) -> (Text, Vec<u32>) {
+    let mut dice = Dice::new(seed + 13_000);
+    let t = at_will(7, &vec![vec![]; 3], &[]);
+    let mut l = Vec::new();
+    for action in 0..3 {
+        for _ in 0..5 {
+            let (index, bit) = (dice.below(7), 1 << dice.below(7));
+            let (goal, f, holds) =
+                [(1, 0, 0), (1, 0, bit), (1, 0, bit), (2, 0, bit), (1, bit, 0)][dice.below(5) as usize];
+            l.extend(t.forced(action, goal, index, f, holds));
+        }
+    }
+    (t, l)
+}
+
+fn rings_by_chance(book: &mut Book) {
+    for seed in 0..4 {
+        let (t, l) = ringed(seed);
+        book.judge(&format!("rings by chance {seed}"), &t.words(), &l, "");
+    }
+}
+
+/// Fade with no lemmas has four findings; 1 comes before 12.
+fn findings_rooms(book: &mut Book) {
+    for (graph, list) in [(OLD_GRAPH - 1, 4), (OLD_GRAPH, 4), (OLD_GRAPH, 3), (GRAPH - 1, 4)] {
+        book.findings_with(&format!("room {graph}/{list}, fade"), &FADE, &[], graph, list, "REFUSED 1 AT 0");
+    }
+    book.findings_with(&format!("room {GRAPH}/4, fade"), &FADE, &[], GRAPH, 4, &found(4));
+}
+
+fn zeroed_findings_rooms(book: &mut Book) {
+    let (p, l) = too_many();
+    let (short, full) = ("REFUSED 1 AT 0", "REFUSED 7 AT 512");
+    for (graph, hand) in [(OLD_GRAPH, short), (GRAPH + 1, full), (GRAPH + 2, full)] {
+        book.findings_with(&format!("room {graph}/4, 7"), &p, &l, graph, 4, hand);
+    }
+}
+
+/// A question to the reading view: list, counts of nodes and actions, node and action; and its answer by
+/// hand. The records have no call for it: the tests alone ask these.
+#[derive(Clone, Debug)]
+pub struct View {
+    pub name: String,
+    pub graph: Vec<u32>,
+    pub counts: (usize, usize),
+    pub asked: (usize, usize),
+    pub hand: Result<u32, Refusal>,
+}
+
+/// "With full lemmas the nodes are 8000C000, 80004002, 80008001, with 10 edges": with the distances 0, 1, 1.
+pub const HOUSE_RECORDS: [u32; 21] = [
+    0x8000C000, 0xB0001FFF, 0x00000000, 0xC0000001, 0xC0000002, 0xC0000000, 0xC0000000,
+    0x80004002, 0xB0000000, 0x00000001, 0xC0000001, 0xCFFFFFFF, 0xC0000001, 0xC0000000,
+    0x80008001, 0xB0000001, 0x00000001, 0xCFFFFFFF, 0xC0000002, 0xC0000000, 0xC0000002,
+];
+
+/// The same as it was before request 6, without the distances.
+const HOUSE_OLD_RECORDS: [u32; 18] = [
+    0x8000C000, 0xB0001FFF, 0xC0000001, 0xC0000002, 0xC0000000, 0xC0000000,
+    0x80004002, 0xB0000000, 0xC0000001, 0xCFFFFFFF, 0xC0000001, 0xC0000000,
+    0x80008001, 0xB0000001, 0xCFFFFFFF, 0xC0000002, 0xC0000000, 0xC0000002,
+];
+
+/// "The view and the findings list read the new record."
+pub fn views() -> Vec<View> {
+    [house_views(), old_record_views(), place_views(), odd_record_views()].concat()
+}
+
+/// The answer by hand, or the number and what is returned with it.
+type ByHand = Result<u32, (u32, u64)>;
+
+fn view(name: &str, graph: &[u32], counts: (usize, usize), asked: (usize, usize), hand: ByHand) -> View {
+    let hand = hand.map_err(|(number, value)| Refusal { number, value });
+    View { name: name.to_string(), graph: graph.to_vec(), counts, asked, hand }
+}
+
+/// A list that begins with these words and has zero behind them, as long as Judge's.
+fn padded(front: &[u32]) -> Vec<u32> {
+    let mut list = front.to_vec();
+    list.resize(GRAPH_WORDS, 0);
+    list
+}
+
+/// House: 3 nodes, 4 actions, 21 words.
+fn house_views() -> Vec<View> {
+    let none = PAYLOAD;
+    let answers = [
+        ((0, 0), Ok(1)),
+        ((0, 1), Ok(2)),
+        ((0, 3), Ok(0)),
+        ((1, 0), Ok(1)),
+        ((1, 1), Ok(none)),
+        ((1, 3), Ok(0)),
+        ((2, 0), Ok(none)),
+        ((2, 3), Ok(2)),
+        ((3, 0), Err((8, 3))),
+        ((0, 4), Err((8, 4))),
+        ((3, 4), Err((8, 3))),
+    ];
+    let mut all = Vec::new();
+    for (asked, hand) in answers {
+        all.push(view("house, exactly its records", &HOUSE_RECORDS, (3, 4), asked, hand));
+        all.push(view("house, Judge's list", &padded(&HOUSE_RECORDS), (3, 4), asked, hand));
+        // "view's list under its records" comes before 8.
+        all.push(view("house, one word fewer", &HOUSE_RECORDS[..20], (3, 4), asked, Err((1, 0))));
+        all.push(view("house, the old length", &HOUSE_RECORDS[..18], (3, 4), asked, Err((1, 0))));
+    }
+    all
+}
+
+/// Records of one width read as the other: "view meets no EDGE" is 2 with the word's index.
+fn old_record_views() -> Vec<View> {
+    let old = padded(&HOUSE_OLD_RECORDS);
+    let mut all = vec![view("old house, its 18 words", &HOUSE_OLD_RECORDS, (3, 4), (0, 0), Err((1, 0)))];
+    for (asked, hand) in [
+        ((0, 0), Ok(2)),        // word 3: the EDGE of action 1
+        ((0, 3), Err((2, 6))),  // SETS of node 1
+        ((1, 2), Err((2, 12))), // SETS of node 2
+        ((1, 3), Err((2, 13))), // ORIGIN of node 2
+        ((2, 0), Ok(2)),        // word 17: the last EDGE
+        ((2, 1), Err((2, 18))), // zero
+    ] {
+        all.push(view("old house read as new", &old, (3, 4), asked, hand));
+    }
+    // Records of 7 words read as those of 6, which 3 actions have now and 4 had before.
+    for (asked, hand) in [
+        ((0, 0), Ok(1)),
+        ((0, 2), Ok(0)),
+        ((1, 0), Err((2, 9))),  // the distance of node 1
+        ((2, 0), Err((2, 15))), // ORIGIN of node 2
+        ((2, 1), Err((2, 16))), // the distance of node 2
+    ] {
+        all.push(view("house read with records of 6 words", &HOUSE_RECORDS, (3, 3), asked, hand));
+    }
+    all
+}
+
+/// EDGE words that name their own place, so that the answer is the place.
+fn place_views() -> Vec<View> {
+    let places = |length: u32| (0..length).map(|place| make(EDGE, place)).collect::<Vec<u32>>();
+    let most = vec![(0, 0, 3), (0, 15, 18), (1, 0, 22), (1, 15, 37), (511, 0, 9_712), (511, 15, 9_727)];
+    let mut all = Vec::new();
+    for (nodes, actions, length, questions) in [
+        (512, 16, 9_728, most),
+        (512, 1, 2_048, vec![(0, 0, 3), (1, 0, 7), (511, 0, 2_047)]),
+        (1, 16, 19, vec![(0, 0, 3), (0, 15, 18)]),
+        (1, 1, 4, vec![(0, 0, 3)]),
+    ] {
+        for (node, action, place) in questions {
+            let (counts, asked) = ((nodes, actions), (node, action));
+            all.push(view("places, exactly the records", &places(length), counts, asked, Ok(place)));
+            all.push(view("places, one word fewer", &places(length - 1), counts, asked, Err((1, 0))));
+            // As long as nodes * (2 + actions), which was enough before.
+            let old = places(length - nodes as u32);
+            all.push(view("places, the old length", &old, counts, asked, Err((1, 0))));
+        }
+    }
+    // Without actions a record has three words.
+    all.push(view("no actions", &places(1_536), (512, 0), (511, 0), Err((8, 0))));
+    all.push(view("no actions, one word fewer", &places(1_535), (512, 0), (511, 0), Err((1, 0))));
+    all.push(view("no nodes", &[], (0, 16), (0, 0), Err((8, 0))));
+    all
+}
+
+/// A distance where an EDGE belongs; and what stands where the distance belongs is not looked at.
+fn odd_record_views() -> Vec<View> {
+    let last = [0x80000000, 0xB0001FFF, 0xC0000000, 0x00000000];
+    let far = [0x80000000, 0xB0001FFF, 0xC0000000, 0x000001FF];
+    let other = [0x80000000, 0xB0001FFF, 0xFFFFFFFF, 0xC0000000];
+    vec![
+        view("distance behind EDGE", &last, (1, 1), (0, 0), Err((2, 3))),
+        view("distance 511 behind EDGE", &far, (1, 1), (0, 0), Err((2, 3))),
+        view("another word for the distance", &other, (1, 1), (0, 0), Ok(0)),
+    ]
 }

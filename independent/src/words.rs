@@ -3,6 +3,9 @@
 //! "A word has 32 bits: the kind in bits 31 to 28, the payload in bits 27 to 0.
 //! Signed fields are two's complement. Bits named by no field are zero."
 
+/// Request 6: "a third word after ORIGIN, of kind 0, whose payload is that distance". In a program or a lemma
+/// list kind 0 stays a wrong kind.
+pub const DISTANCE: u32 = 0;
 pub const VAR: u32 = 1;
 pub const ROW: u32 = 2;
 pub const TERM: u32 = 3;
@@ -23,10 +26,12 @@ pub const END: u32 = 15;
 /// All 28 bits of a payload.
 pub const PAYLOAD: u32 = 0x0FFF_FFFF;
 
-/// "graph list under 9,216 words"
-pub const GRAPH_WORDS: usize = 9_216;
-/// "A node's record is SETS, ORIGIN (where it was first found) and one EDGE per action."
-pub const HEADER: usize = 2;
+/// Request 6: "The graph list must now have 9,728 words, which replaces 9,216 throughout 01."
+pub const GRAPH_WORDS: usize = 9_728;
+/// "A node's record is SETS, ORIGIN (where it was first found) and one EDGE per action." Request 6: "Each
+/// record gets a third word after ORIGIN". It is the record's third word and stands next to ORIGIN, because
+/// "EDGE words move up by one": the first EDGE is the fourth word.
+pub const HEADER: usize = 3;
 /// "path list under 512"
 pub const PATH_WORDS: usize = 512;
 /// "a 513th node is needed"

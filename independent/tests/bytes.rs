@@ -44,7 +44,7 @@ impl Lent {
         self
     }
 
-    /// "the rest of the first 9,216 words is zero"
+    /// "the rest of the first [9,728] words is zero"
     fn with_graph(mut self, front: &[u32]) -> Lent {
         self.graph[..GRAPH_WORDS].fill(0);
         self.graph[..front.len()].copy_from_slice(front);
@@ -68,7 +68,7 @@ fn long_enough() -> [Lent; 2] {
 fn all_lengths() -> Vec<Lent> {
     let mut all = Vec::new();
     for words in [0, 1, SHOW_WORDS - 1, SHOW_WORDS, SHOW_WORDS + 1] {
-        for graph in [0, GRAPH_WORDS - 1, GRAPH_WORDS, GRAPH_WORDS + 1] {
+        for graph in [0, 9_216, GRAPH_WORDS - 1, GRAPH_WORDS, GRAPH_WORDS + 1] {
             for path in [0, PATH_WORDS - 1, PATH_WORDS, PATH_WORDS + 1] {
                 all.push(lend(words, graph, path));
             }
@@ -128,7 +128,7 @@ fn left(bytes: &[u8], shown: Shown, text: &str) {
 // ---------------------------------------------------------------------------------------------
 // The worked shows and the table (a) to (h)
 
-const FADE_GRAPH: [u32; 4] = [0x80000000, FIRST, 0xC0000000, 0xC0000000];
+const FADE_GRAPH: [u32; 5] = [0x80000000, FIRST, 0x00000000, 0xC0000000, 0xC0000000];
 
 fn fade_runs_off(words: &[u32], action: usize, high: bool) {
     let answer = Judged::MayRunOff { node: 0, action, variable: 0, high, nodes: 1, edges: 2 };
@@ -176,10 +176,10 @@ fn c_all_multipliers_zero() {
     fade_runs_off(&words, 0, false);
 }
 
-const HOUSE_GRAPH: [u32; 18] = [
-    0x8000C000, FIRST, 0xC0000001, 0xC0000002, 0xC0000000, 0xC0000000,
-    0x80004002, 0xB0000000, 0xC0000001, NONE, 0xC0000001, 0xC0000000,
-    0x80008001, 0xB0000001, NONE, 0xC0000002, 0xC0000000, 0xC0000002,
+const HOUSE_GRAPH: [u32; 21] = [
+    0x8000C000, FIRST, 0x00000000, 0xC0000001, 0xC0000002, 0xC0000000, 0xC0000000,
+    0x80004002, 0xB0000000, 0x00000001, 0xC0000001, NONE, 0xC0000001, 0xC0000000,
+    0x80008001, 0xB0000001, 0x00000001, NONE, 0xC0000002, 0xC0000000, 0xC0000002,
 ];
 
 #[test]
@@ -199,7 +199,7 @@ fn house_with_full_lemmas() {
 #[test]
 fn d_house_with_no_lemmas() {
     let logic = house().words();
-    let graph = [0x80000000, FIRST, 0xC0000000, 0xC0000000, 0xC0000000, 0xC0000000];
+    let graph = [0x80000000, FIRST, 0x00000000, 0xC0000000, 0xC0000000, 0xC0000000, 0xC0000000];
     let forbid = Judged::MayForbid { node: 0, bad: 0, nodes: 1, edges: 4 };
     verdict(&logic, logic.len(), forbid, &graph, &[], "FORBID node 0 bad 0\nPATH\n");
 }
@@ -220,11 +220,11 @@ fn e_house_without_action_0_failing_p0() {
 fn house_with_p0_unknown() {
     let logic = house().words();
     let graph = [
-        0x80008000, FIRST, 0xC0000001, 0xC0000002, 0xC0000003, 0xC0000000,
-        0x80000002, 0xB0000000, 0xC0000001, NONE, 0xC0000004, 0xC0000000,
-        0x80008001, 0xB0000001, NONE, 0xC0000002, 0xC0000003, 0xC0000002,
-        0x8000C000, 0xB0000002, 0xC0000004, 0xC0000002, 0xC0000003, 0xC0000003,
-        0x80004002, 0xB0000012, 0xC0000004, NONE, 0xC0000004, 0xC0000003,
+        0x80008000, FIRST, 0x00000000, 0xC0000001, 0xC0000002, 0xC0000003, 0xC0000000,
+        0x80000002, 0xB0000000, 0x00000001, 0xC0000001, NONE, 0xC0000004, 0xC0000000,
+        0x80008001, 0xB0000001, 0x00000001, NONE, 0xC0000002, 0xC0000003, 0xC0000002,
+        0x8000C000, 0xB0000002, 0x00000001, 0xC0000004, 0xC0000002, 0xC0000003, 0xC0000003,
+        0x80004002, 0xB0000012, 0x00000002, 0xC0000004, NONE, 0xC0000004, 0xC0000003,
     ];
     let forbid = Judged::MayForbid { node: 1, bad: 0, nodes: 5, edges: 17 };
     let words = file(&logic, &leave_out(&house_lemmas(), &HOUSE_P0_UNKNOWN));
@@ -236,8 +236,8 @@ fn house_with_p0_unknown() {
 fn house_with_p0_kept() {
     let logic = house().words();
     let mut graph = HOUSE_GRAPH.to_vec();
-    graph[14] = 0xC0000003;
-    graph.extend([0x80000003, 0xB0000020, 0xC0000003, NONE, 0xC0000001, 0xC0000002]);
+    graph[17] = 0xC0000003; // node 2, action 0
+    graph.extend([0x80000003, 0xB0000020, 0x00000002, 0xC0000003, NONE, 0xC0000001, 0xC0000002]);
     let forbid = Judged::MayForbid { node: 3, bad: 0, nodes: 4, edges: 14 };
     let words = file(&logic, &leave_out(&house_lemmas(), &HOUSE_P0_KEPT));
     verdict(&words, logic.len(), forbid, &graph, &[0xD0000001, 0xD0000000], "FORBID node 3 bad 0\nPATH 1 0\n");
@@ -360,6 +360,9 @@ fn graph_and_path_short() {
     for words in [file(&FADE, &FADE_LEMMAS), unread.to_vec(), file(&FADE, &[0xA0000000])] {
         let bytes = bytes_of(&words);
         for (graph, path, place) in [
+            (9_215, PATH_WORDS, 0),
+            (9_216, PATH_WORDS, 0),
+            (9_216, PATH_WORDS - 1, 0),
             (GRAPH_WORDS - 1, PATH_WORDS, 0),
             (GRAPH_WORDS, PATH_WORDS - 1, 1),
             (GRAPH_WORDS - 1, PATH_WORDS - 1, 0),
@@ -432,20 +435,21 @@ fn a_path_of_two_actions() {
     lemmas.extend(t.forced(3, 0, 0, 1, 0));
     lemmas.extend(t.forced(3, 1, 0, 0, 1));
     lemmas.extend(t.forced(3, 1, 1, 0, 1));
-    let mut graph = [NONE; 3 * 18];
-    for (node, head) in [[0x8000C000, FIRST], [0x80008001, 0xB000000C], [0x80000003, 0xB0000013]].iter().enumerate() {
-        graph[18 * node..18 * node + 2].copy_from_slice(head);
+    let mut graph = [NONE; 3 * 19];
+    let heads = [[0x8000C000, FIRST, 0], [0x80008001, 0xB000000C, 1], [0x80000003, 0xB0000013, 2]];
+    for (node, head) in heads.iter().enumerate() {
+        graph[19 * node..19 * node + 3].copy_from_slice(head);
     }
-    graph[2 + 12] = 0xC0000001;
-    graph[18 + 2 + 3] = 0xC0000002;
-    graph[36 + 2 + 3] = 0xC0000002;
+    graph[3 + 12] = 0xC0000001;
+    graph[19 + 3 + 3] = 0xC0000002;
+    graph[38 + 3 + 3] = 0xC0000002;
     let forbid = Judged::MayForbid { node: 2, bad: 0, nodes: 3, edges: 3 };
     let logic = t.words();
     let words = file(&logic, &lemmas);
     verdict(&words, logic.len(), forbid, &graph, &[0xD000000C, 0xD0000003], "FORBID node 2 bad 0\nPATH 12 3\n");
 }
 
-/// The longest path: 511 steps of action 0.
+/// The longest path: 511 steps of action 0. Each node is one step farther than the last.
 #[test]
 fn the_longest_path() {
     let (t, lemmas) = counter(9, &[(0, 511)]);
@@ -453,7 +457,7 @@ fn the_longest_path() {
     let mut graph = Vec::new();
     for node in 0..512u32 {
         let origin = if node == 0 { FIRST } else { 0xB0000000 | (node - 1) << 4 };
-        graph.extend([0x80000000 | (511 - node) << 14 | node, origin, 0xC0000000 | (node + 1) % 512]);
+        graph.extend([0x80000000 | (511 - node) << 14 | node, origin, node, 0xC0000000 | (node + 1) % 512]);
     }
     let forbid = Judged::MayForbid { node: 511, bad: 0, nodes: 512, edges: 512 };
     let text = format!("FORBID node 511 bad 0\nPATH{}\n", " 0".repeat(511));
@@ -469,7 +473,7 @@ fn an_empty_graph() {
     verdict(&words, logic.len(), Judged::Safe { nodes: 0, edges: 0 }, &[], &[], "SAFE nodes 0 edges 0\n");
 }
 
-/// Refusal 7: "path list [left]; first 9,216 graph words become zero".
+/// Refusal 7: "path list [left]; first [9,728] graph words become zero".
 #[test]
 fn a_513th_node() {
     let (logic, lemmas) = subsets(10, 10);

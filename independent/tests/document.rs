@@ -1,4 +1,4 @@
-//! The worked facts of document 01 with request 1, and the answers worked out by hand for the test
+//! The worked facts of document 01 with requests 1 and 6, and the answers worked out by hand for the test
 //! records.
 
 use independent::lemma::{Goal, Lemma, Source};
@@ -27,7 +27,7 @@ fn zero(words: &[u32]) -> bool {
 fn a_fade_is_safe() {
     let (verdict, graph, path) = judged(&FADE, &FADE_LEMMAS);
     assert_eq!(verdict, Judged::Safe { nodes: 1, edges: 2 });
-    assert_eq!(graph[..HEADER + 2], [0x80000000, 0xB0001FFF, 0xC0000000, 0xC0000000]);
+    assert_eq!(graph[..HEADER + 2], [0x80000000, 0xB0001FFF, 0x00000000, 0xC0000000, 0xC0000000]);
     assert!(zero(&graph[HEADER + 2..]) && zero(&path));
 }
 
@@ -54,11 +54,12 @@ fn house_is_the_show() {
 
 const NONE: u32 = 0xCFFFFFFF;
 
-/// "With full lemmas the nodes are 8000C000, 80004002, 80008001, with 10 edges, safe."
-const HOUSE_GRAPH: [u32; 18] = [
-    0x8000C000, 0xB0001FFF, 0xC0000001, 0xC0000002, 0xC0000000, 0xC0000000,
-    0x80004002, 0xB0000000, 0xC0000001, NONE, 0xC0000001, 0xC0000000,
-    0x80008001, 0xB0000001, NONE, 0xC0000002, 0xC0000000, 0xC0000002,
+/// "With full lemmas the nodes are 8000C000, 80004002, 80008001, with 10 edges, safe." Nodes 1 and 2 are
+/// found from node 0: distance 1.
+const HOUSE_GRAPH: [u32; 21] = [
+    0x8000C000, 0xB0001FFF, 0x00000000, 0xC0000001, 0xC0000002, 0xC0000000, 0xC0000000,
+    0x80004002, 0xB0000000, 0x00000001, 0xC0000001, NONE, 0xC0000001, 0xC0000000,
+    0x80008001, 0xB0000001, 0x00000001, NONE, 0xC0000002, 0xC0000000, 0xC0000002,
 ];
 
 #[test]
@@ -77,7 +78,8 @@ fn house_with_full_lemmas() {
 fn d_house_with_no_lemmas() {
     let (verdict, graph, path) = judged(&house().words(), &[]);
     assert_eq!(verdict, Judged::MayForbid { node: 0, bad: 0, nodes: 1, edges: 4 });
-    assert_eq!(graph[..HEADER + 4], [0x80000000, 0xB0001FFF, 0xC0000000, 0xC0000000, 0xC0000000, 0xC0000000]);
+    let record = [0x80000000, 0xB0001FFF, 0x00000000, 0xC0000000, 0xC0000000, 0xC0000000, 0xC0000000];
+    assert_eq!(graph[..HEADER + 4], record);
     assert!(zero(&path));
 }
 
@@ -94,18 +96,19 @@ fn e_house_without_action_0_failing_p0() {
     }
 }
 
-/// Without the start's lemma on P0 as well there is nothing to keep: node 1 is 80000002, path 0.
+/// Without the start's lemma on P0 as well there is nothing to keep: node 1 is 80000002, path 0. Nodes 1 to 3
+/// are found from node 0, node 4 from node 1: distances 1 and 2.
 #[test]
 fn house_with_p0_unknown() {
     for list in [house_lemmas(), split_lemmas(&show("house").1)] {
         let (verdict, graph, path) = judged(&house().words(), &leave_out(&list, &HOUSE_P0_UNKNOWN));
         assert_eq!(verdict, Judged::MayForbid { node: 1, bad: 0, nodes: 5, edges: 17 });
         let expected = [
-            0x80008000, 0xB0001FFF, 0xC0000001, 0xC0000002, 0xC0000003, 0xC0000000,
-            0x80000002, 0xB0000000, 0xC0000001, NONE, 0xC0000004, 0xC0000000,
-            0x80008001, 0xB0000001, NONE, 0xC0000002, 0xC0000003, 0xC0000002,
-            0x8000C000, 0xB0000002, 0xC0000004, 0xC0000002, 0xC0000003, 0xC0000003,
-            0x80004002, 0xB0000012, 0xC0000004, NONE, 0xC0000004, 0xC0000003,
+            0x80008000, 0xB0001FFF, 0x00000000, 0xC0000001, 0xC0000002, 0xC0000003, 0xC0000000,
+            0x80000002, 0xB0000000, 0x00000001, 0xC0000001, NONE, 0xC0000004, 0xC0000000,
+            0x80008001, 0xB0000001, 0x00000001, NONE, 0xC0000002, 0xC0000003, 0xC0000002,
+            0x8000C000, 0xB0000002, 0x00000001, 0xC0000004, 0xC0000002, 0xC0000003, 0xC0000003,
+            0x80004002, 0xB0000012, 0x00000002, 0xC0000004, NONE, 0xC0000004, 0xC0000003,
         ];
         assert_eq!(graph[..5 * (HEADER + 4)], expected);
         assert_eq!(path[0], 0xD0000000);
@@ -113,15 +116,15 @@ fn house_with_p0_unknown() {
     }
 }
 
-/// Without both lemmas of action 0 on P0 it keeps P0: node 3 is 80000003, path 1 0.
+/// Without both lemmas of action 0 on P0 it keeps P0: node 3 is 80000003, path 1 0, distance 2.
 #[test]
 fn house_with_p0_kept() {
     let (verdict, graph, path) = judged(&house().words(), &leave_out(&house_lemmas(), &HOUSE_P0_KEPT));
     assert_eq!(verdict, Judged::MayForbid { node: 3, bad: 0, nodes: 4, edges: 14 });
     assert_eq!(graph[..2 * (HEADER + 4)], HOUSE_GRAPH[..2 * (HEADER + 4)]);
     let expected = [
-        0x80008001, 0xB0000001, 0xC0000003, 0xC0000002, 0xC0000000, 0xC0000002,
-        0x80000003, 0xB0000020, 0xC0000003, NONE, 0xC0000001, 0xC0000002,
+        0x80008001, 0xB0000001, 0x00000001, 0xC0000003, 0xC0000002, 0xC0000000, 0xC0000002,
+        0x80000003, 0xB0000020, 0x00000002, 0xC0000003, NONE, 0xC0000001, 0xC0000002,
     ];
     assert_eq!(graph[2 * (HEADER + 4)..4 * (HEADER + 4)], expected);
     assert_eq!(path[..3], [0xD0000001, 0xD0000000, 0]);
@@ -248,7 +251,7 @@ fn the_document_limits() {
     assert_eq!(greatest.record.lemmas.len(), 12800);
 }
 
-/// Every answer worked out by hand; refusals other than 7 leave the lists, 7 zeroes 9,216 words.
+/// Every answer worked out by hand; refusals other than 7 leave the lists, 7 zeroes 9,728 words.
 #[test]
 fn hand_answers() {
     let mut hands = 0;
@@ -301,6 +304,7 @@ fn a_long_path() {
     let last = 511 * (HEADER + 1);
     assert_eq!(graph[last], sets_word(0, 511));
     assert_eq!(graph[last + 1], 0xB0000000 | 510 << 4);
+    assert_eq!(graph[last + 2], 511);
     assert_eq!(graph[last + HEADER], 0xC0000000);
 }
 
@@ -410,13 +414,14 @@ fn slow_judge(p: &[u32], words: &[u32]) -> Option<(Judged, Vec<u32>, Vec<u32>)> 
     }
     let mut graph = Vec::new();
     let mut edges = 0;
-    for (set, origin, targets) in &nodes {
+    for ((set, origin, targets), way) in nodes.iter().zip(&ways) {
         let mut word = 0x8000_0000;
         for (i, yes) in set {
             word += if *yes { 1u32 << i } else { 1u32 << (14 + i) };
         }
         graph.push(word);
         graph.push(0xB000_0000 + origin);
+        graph.push(way.len() as u32); // the distance: as many steps as the path has
         graph.extend(targets.iter().map(|t| 0xC000_0000 + t));
         edges += targets.iter().filter(|t| **t != 0x0FFFFFFF).count();
     }
@@ -688,15 +693,23 @@ fn case(name: &str) -> shows::Case {
 /// A node by hand: known-false and known-true predicates, and the successors, -1 for none.
 type ByHand<'a> = (u32, u32, &'a [i32]);
 
-/// The records of these nodes. A node's origin is the first edge to it.
+/// The records of these nodes. A node's origin is the first edge to it; its distance is "the parent's plus
+/// 1".
 fn graph_by_hand(nodes: &[ByHand]) -> Vec<u32> {
-    let mut words = Vec::new();
+    let (mut words, mut distances) = (Vec::new(), Vec::new());
     for (number, (f, t, edges)) in nodes.iter().enumerate() {
         words.push(sets_word(*f, *t));
         let found = nodes.iter().enumerate().find_map(|(parent, (_, _, edges))| {
-            edges.iter().position(|e| *e == number as i32).map(|action| (parent << 4 | action) as u32)
+            edges.iter().position(|e| *e == number as i32).map(|action| (parent, action))
         });
-        words.push(make(ORIGIN, if number == 0 { 0x1FFF } else { found.unwrap() }));
+        let (origin, distance) = if number == 0 {
+            (0x1FFF, 0)
+        } else {
+            let (parent, action) = found.unwrap();
+            ((parent << 4 | action) as u32, distances[parent] + 1)
+        };
+        words.extend([make(ORIGIN, origin), distance]);
+        distances.push(distance);
         words.extend(edges.iter().map(|e| make(EDGE, *e as u32)));
     }
     words.resize(GRAPH_WORDS, 0);

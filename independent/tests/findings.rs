@@ -45,7 +45,7 @@ fn zeroed(front: &[u32], length: usize) -> Vec<u32> {
     list
 }
 
-/// A graph list that begins with these records: the rest of the first 9,216 words is zero, words behind
+/// A graph list that begins with these records: the rest of the first 9,728 words is zero, words behind
 /// them are as they were.
 fn filled(front: &[u32], length: usize) -> Vec<u32> {
     let mut graph = zeroed(front, GRAPH_WORDS);
@@ -126,13 +126,14 @@ fn fade_by_hand() -> Vec<(&'static str, &'static [u32])> {
         ("fade without lemmas [0, 1, 2, 3]", &FADE_ENDS),
         ("fade, lemmas 3 and 0 in this order", &[0xE0040001, 0xE0044000]),
         ("fade, lemma 2 all 0", &[0xE0044000]),
-        ("fade, no lemmas, 9216/600", &FADE_ENDS),
-        ("fade, no lemmas, 9216/16384", &FADE_ENDS),
-        ("fade, no lemmas, 9217/4", &FADE_ENDS),
+        ("fade, no lemmas, 9728/600", &FADE_ENDS),
+        ("fade, no lemmas, 9728/16384", &FADE_ENDS),
+        ("fade, no lemmas, 9729/4", &FADE_ENDS),
         ("fade, no lemmas, 16384/4", &FADE_ENDS),
         ("fade without its last lemma, list of 1", &[0xE0044001]),
         ("fade, longer graph list, list of 0", &[]),
         ("refused, none, list of 3", &[]),
+        ("room 9728/4, fade", &FADE_ENDS),
     ]
 }
 
@@ -223,6 +224,7 @@ fn nodes_by_hand() -> Vec<(&'static str, &'static [u32])> {
         ("P0 touched, its failing forbidden", &[0xE0080000]),
         ("x set, y set, P1 and not P0 forbidden", &[0xE0080800, 0xE0100000, 0xE0180000, 0xE0180800]),
         ("node 511, eight combinations and a high end", &LAST_NODE),
+        ("rings, the empty combination at five nodes", &EIGHT_NODES[..5]),
     ]
 }
 
@@ -305,9 +307,9 @@ fn the_most_findings() {
     let (answer, graph, list) = listed(&p, &l, GRAPH_WORDS, MOST - 1);
     assert_eq!(answer, refused(12, 135_168));
     assert!(list == lent_path(MOST as u32 - 1));
-    // 512 records of 18 words: all words of the graph list are in use.
+    // 512 records of 19 words: all words of the graph list are in use. Node 0's distance alone is zero.
     assert_eq!(graph, judged(&p, &l, GRAPH_WORDS).1);
-    assert!(graph.iter().all(|word| *word != 0));
+    assert!(graph.iter().enumerate().all(|(place, word)| (*word == 0) == (place == 2)));
 }
 
 // ---------------------------------------------------------------------------------------------
@@ -315,27 +317,39 @@ fn the_most_findings() {
 
 #[test]
 fn graph_lists() {
-    let fade = [0x80000000, 0xB0001FFF, 0xC0000000, 0xC0000000];
+    let fade = [0x80000000, 0xB0001FFF, 0x00000000, 0xC0000000, 0xC0000000];
     let house = [
-        0x8000C000, 0xB0001FFF, 0xC0000001, 0xC0000002, 0xC0000000, 0xC0000000,
-        0x80004002, 0xB0000000, 0xC0000001, NONE, 0xC0000001, 0xC0000000,
-        0x80008001, 0xB0000001, NONE, 0xC0000002, 0xC0000000, 0xC0000002,
+        0x8000C000, 0xB0001FFF, 0x00000000, 0xC0000001, 0xC0000002, 0xC0000000, 0xC0000000,
+        0x80004002, 0xB0000000, 0x00000001, 0xC0000001, NONE, 0xC0000001, 0xC0000000,
+        0x80008001, 0xB0000001, 0x00000001, NONE, 0xC0000002, 0xC0000000, 0xC0000002,
     ];
-    let two_nodes =
-        [0x80004000, 0xB0001FFF, 0xC0000001, 0xC0000000, 0x80000001, 0xB0000000, 0xC0000001, 0xC0000001];
-    let list: [(&str, &[u32]); 12] = [
+    let two_nodes = [
+        0x80004000, 0xB0001FFF, 0x00000000, 0xC0000001, 0xC0000000,
+        0x80000001, 0xB0000000, 0x00000001, 0xC0000001, 0xC0000001,
+    ];
+    // {}, {P0}, all four, {P0, P1}, {P0, P1, P2}.
+    let five_nodes = [
+        0x80000000, 0xB0001FFF, 0x00000000, 0xC0000001, 0xC0000000, 0xC0000000, 0xC0000002,
+        0x80000001, 0xB0000000, 0x00000001, 0xC0000001, 0xC0000003, 0xC0000001, 0xC0000002,
+        0x8000000F, 0xB0000003, 0x00000001, 0xC0000002, 0xC0000002, 0xC0000002, 0xC0000002,
+        0x80000003, 0xB0000011, 0x00000002, 0xC0000003, 0xC0000003, 0xC0000004, 0xC0000002,
+        0x80000007, 0xB0000032, 0x00000003, 0xC0000004, 0xC0000004, 0xC0000004, 0xC0000002,
+    ];
+    let list: [(&str, &[u32]); 14] = [
         ("fade, list of 0", &fade),
         ("fade, no lemmas, 16384/4", &fade),
         ("fade, no lemmas, 16384/3", &fade),
-        ("fade, no lemmas, 9216/0", &fade),
+        ("fade, no lemmas, 9728/0", &fade),
+        ("room 9728/4, fade", &fade),
         ("refused, 12, list of 3", &fade),
         ("house, full lemmas", &house),
         ("house, no ends shown", &house),
         ("house, five combinations", &house),
         ("empty graph by goal 0, longer", &[]),
-        ("action 0 gone by what it keeps", &[0x80000001, 0xB0001FFF, NONE, 0xC0000000]),
+        ("action 0 gone by what it keeps", &[0x80000001, 0xB0001FFF, 0x00000000, NONE, 0xC0000000]),
         ("two nodes, no ends shown", &two_nodes),
         ("two nodes, combinations and low ends", &two_nodes),
+        ("rings, the empty combination at five nodes", &five_nodes),
     ];
     for (name, front) in list {
         let (_, case) = records().into_iter().find(|(known, _)| *known == name).unwrap();
@@ -343,15 +357,15 @@ fn graph_lists() {
     }
 }
 
-/// Node 511 of the record whose findings are all there: no literal is left.
+/// Node 511 of the record whose findings are all there: no literal is left, one lost with each of nine steps.
 #[test]
 fn the_last_node() {
     let (t, l) = last_node(&[(0, 0x1FF); 8]);
     let (_, graph, _) = listed(&t.words(), &l, GRAPH_WORDS, 9);
-    let (first, last) = (&graph[..18], &graph[511 * 18..]);
-    assert_eq!(first[..3], [0x80000000 | 0x1FF << 14, 0xB0001FFF, 0xC0000001]);
-    assert_eq!(last[0], 0x80000000);
-    assert!(last[2..].iter().all(|edge| *edge == 0xC00001FF));
+    let (first, last) = (&graph[..19], &graph[511 * 19..]);
+    assert_eq!(first[..4], [0x80000000 | 0x1FF << 14, 0xB0001FFF, 0x00000000, 0xC0000001]);
+    assert_eq!((last[0], last[2]), (0x80000000, 9));
+    assert!(last[3..].iter().all(|edge| *edge == 0xC00001FF));
 }
 
 // ---------------------------------------------------------------------------------------------
@@ -385,11 +399,11 @@ fn faults() -> Vec<(Vec<u32>, Vec<u32>, Listed)> {
     ]
 }
 
-/// "graph list under 9,216 words": 1 with 0, before everything else; both lists are left.
+/// "graph list under [9,728] words": 1 with 0, before everything else; both lists are left.
 #[test]
 fn refusal_1() {
     for (p, l, _) in faults() {
-        for graph in [0, 1, GRAPH_WORDS - 1] {
+        for graph in [0, 1, 9_215, 9_216, 9_217, GRAPH_WORDS - 1] {
             for list in [0, 3, 600] {
                 let left = (refused(1, 0), lent_graph(graph as u32), lent_path(list as u32));
                 assert_eq!(listed(&p, &l, graph, list), left);
@@ -398,7 +412,7 @@ fn refusal_1() {
     }
 }
 
-/// 2 to 6 leave both lists, 7 zeroes the first 9,216 words of the graph list and leaves the findings list;
+/// 2 to 6 leave both lists, 7 zeroes the first 9,728 words of the graph list and leaves the findings list;
 /// all of them whether or not the findings list is long enough.
 #[test]
 fn refusals_2_to_7() {
@@ -434,11 +448,11 @@ fn listed_lengths(p: &[u32], l: &[u32], words: &[u32], graph: &[u32]) {
 /// that list alone and keeps the graph." All lengths up to the one needed, and more.
 #[test]
 fn refusal_12() {
-    let fade = [0x80000000, 0xB0001FFF, 0xC0000000, 0xC0000000];
+    let fade = [0x80000000, 0xB0001FFF, 0x00000000, 0xC0000000, 0xC0000000];
     listed_lengths(&FADE, &[], &FADE_ENDS, &fade);
     listed_lengths(&FADE, &FADE_LEMMAS[8..], &FADE_ENDS[..2], &fade);
     listed_lengths(&FADE, &FADE_LEMMAS, &[], &fade);
-    let house_graph = [0x80000000, 0xB0001FFF, 0xC0000000, 0xC0000000, 0xC0000000, 0xC0000000];
+    let house_graph = [0x80000000, 0xB0001FFF, 0x00000000, 0xC0000000, 0xC0000000, 0xC0000000, 0xC0000000];
     listed_lengths(&house().words(), &[], &HOUSE_OPEN, &house_graph);
     // The empty graph: nothing is needed.
     let t = at_will(1, &[vec![0]], &[(0, 0)]);
@@ -597,8 +611,8 @@ fn beside_judge_by_chance() {
 #[test]
 fn calls() {
     let program = FADE.to_vec();
-    let mut record = Record { call: FINDINGS, program, graph: 9216, path: 4, ..Record::default() };
-    assert_eq!(record.words()[..7], [22, 5, 0, 16, 0, 9216, 4]);
+    let mut record = Record { call: FINDINGS, program, graph: 9728, path: 4, ..Record::default() };
+    assert_eq!(record.words()[..7], [22, 5, 0, 16, 0, 9728, 4]);
     assert_eq!(decode(&record.words()), Ok(vec![record.clone()]));
     for call in [0, 1, 2, 6] {
         record.call = call;

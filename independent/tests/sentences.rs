@@ -535,8 +535,8 @@ fn too_long() {
 /// in number order, actions in number order", and the first edge to a node is where it was first found.
 fn paths(graph: &[u32], actions: usize) -> Vec<String> {
     let mut paths = vec![String::new()];
-    for (node, record) in graph.chunks(2 + actions).take_while(|record| record[0] >> 28 == 8).enumerate() {
-        for (action, edge) in record[2..].iter().enumerate() {
+    for (node, record) in graph.chunks(3 + actions).take_while(|record| record[0] >> 28 == 8).enumerate() {
+        for (action, edge) in record[3..].iter().enumerate() {
             if *edge == 0xC000_0000 + paths.len() as u32 {
                 paths.push(format!("{} {action}", paths[node]));
             }
@@ -548,7 +548,7 @@ fn paths(graph: &[u32], actions: usize) -> Vec<String> {
 
 /// The lines by another way, if the show is not refused and has findings.
 fn slow_lines(logic: &[u32], lemmas: &[u32]) -> Option<String> {
-    let (mut graph, mut list) = (vec![0; 9_216], vec![0; 135_168]);
+    let (mut graph, mut list) = (vec![0; 9_728], vec![0; 135_168]);
     let Listed::Listed(count) = findings(logic, lemmas, &mut graph, &mut list) else { return None };
     let paths = paths(&graph, check(logic).unwrap().actions);
     let mut text = String::new();
