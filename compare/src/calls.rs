@@ -142,6 +142,7 @@ impl Compare {
     pub fn judge(&mut self, input: &Input, graph: usize, path: usize, offset: usize) -> Result<BnvJudge, Difference> {
         let judged = self.judge_uncounted(input, graph, path, offset)?;
         self.note_judge(&judged, path);
+        self.rings(input, &judged, graph)?;
         Ok(judged)
     }
 
@@ -285,6 +286,16 @@ impl Compare {
         &self.graphs[1][MARGIN..self.graphs[1].len() - MARGIN]
     }
 
+    /// The library's graph list of the last judge.
+    pub fn library_graph(&self) -> &[u32] {
+        &self.graphs[0][MARGIN..self.graphs[0].len() - MARGIN]
+    }
+
+    /// The library's path list of the last judge.
+    pub fn library_path(&self) -> &[u32] {
+        &self.paths[0][MARGIN..self.paths[0].len() - MARGIN]
+    }
+
     /// The library's graph list of the last call, with its margins, which the next call lends anew.
     pub fn take_graph(&mut self) -> Vec<u32> {
         std::mem::take(&mut self.graphs[0])
@@ -416,7 +427,8 @@ fn length(dice: &Dice, least: usize, most: usize) -> usize {
         0..=74 => least,
         75..=93 => least + 1 + dice.below(64),
         94 => most,
-        95 | 96 => least - 1,
+        95 => least - 1,
+        96 => least - 1 - dice.below(512),
         97 => 0,
         98 => dice.below(least),
         _ => least + dice.below(most - least),

@@ -15,6 +15,7 @@ mod other;
 mod prover;
 mod rack;
 mod racks;
+mod rings;
 mod runs;
 mod sheets;
 mod states;

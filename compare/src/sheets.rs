@@ -5,6 +5,7 @@
 use crate::calls::{falsehood, Difference};
 use crate::findings::{number, word, LONGEST};
 use crate::generate::Input;
+use crate::rings::OLD_ROOM;
 use crate::sweep::{pairs, Sweep};
 use bulanevior::{End, Finding, MOST_FINDINGS};
 use independent::shows::{at_will, counter, switches, var_word, Text};
@@ -214,7 +215,7 @@ impl Sweep<'_> {
                 _ => *words = [words[..4].repeat(MAX_LEMMAS), vec![make(LEMMA, PAYLOAD)]].concat(),
             });
             let inputs = pairs(&programs, &lists);
-            for ((program, lemmas), lent) in pairs(&inputs, &pairs(&[0, GRAPH_WORDS - 1, GRAPH_WORDS], &[0, 1, 2])) {
+            for ((program, lemmas), lent) in pairs(&inputs, &pairs(&[0, OLD_ROOM, GRAPH_WORDS - 1, GRAPH_WORDS], &[0, 1, 2])) {
                 let short = [u32::from(lent.0 < GRAPH_WORDS), if lent.1 < 2 { 12 } else { 0 }];
                 let faults = [short[0], program.0, lemmas.0, if bits > 9 { 7 } else { 0 }, short[1]];
                 self.refused(&Input { program: program.1, lemmas: lemmas.1 }, lent, &faults)?;

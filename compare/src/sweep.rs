@@ -1,11 +1,13 @@
 //! Full sweeps over a full-sized program and a full-sized lemma list: every cut, every kind in every place,
 //! every single unnamed bit, every field at its ends and one past them; lengths of all lent lists. And request 1's clause:
-//! small logics, and every set of variables against every other. Request 2's are in sheets.rs, request 4's in racks.rs.
+//! small logics, and every set of variables against every other. Request 2's are in sheets.rs, request 4's in racks.rs, request 6's in
+//! rings.rs.
 
 use crate::calls::{falsehood, Compare, Difference};
 use crate::counts::DUE;
 use crate::generate::Input;
 use crate::keeping::NAMES;
+use crate::rings::{OLD_ROOM, NAMES as RINGS};
 use crate::touch::Graph;
 use bulanevior::raw::BnvJudge;
 use independent::program::Literals;
@@ -176,8 +178,9 @@ pub fn sweep(compare: &mut Compare) -> Result<u64, Difference> {
     sweep.kept_by_two()?;
     sweep.kept_by_variables()?;
     sweep.sheets()?;
+    sweep.rings()?;
     let more = DUE.iter().copied().filter(|name| name.starts_with("findings") || name.starts_with("rack "));
-    match NAMES.into_iter().chain(more).find(|name| sweep.compare.counts.of(name) == 0) {
+    match NAMES.into_iter().chain(RINGS).chain(more).find(|name| sweep.compare.counts.of(name) == 0) {
         Some(name) => Err(format!("the sweeps never had: {name}")),
         None => Ok(sweep.inputs),
     }
@@ -228,7 +231,7 @@ impl Sweep<'_> {
 
     /// A show: list lengths, every lemma, every action, every successor, every state list around the ranges.
     fn show(&mut self, input: &Input) -> Result<(), Difference> {
-        for graph in [0, 1, GRAPH_WORDS - 1, GRAPH_WORDS, GRAPH_WORDS + 1, 12_000] {
+        for graph in [0, 1, OLD_ROOM - 1, OLD_ROOM, GRAPH_WORDS - 1, GRAPH_WORDS, GRAPH_WORDS + 1, 12_000] {
             for path in [0, 1, PATH_WORDS - 1, PATH_WORDS, PATH_WORDS + 1, 1_000] {
                 self.compare.judge(input, graph, path, graph % 7)?;
                 self.inputs += 1;

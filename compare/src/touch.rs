@@ -24,6 +24,16 @@ impl Graph<'_> {
         Literals::of_word(self.record(node)[0])
     }
 
+    /// The ORIGIN word.
+    pub fn origin(&self, node: usize) -> u32 {
+        self.record(node)[1]
+    }
+
+    /// The word behind it.
+    pub fn distance(&self, node: usize) -> u32 {
+        self.record(node)[2]
+    }
+
     pub fn successor(&self, node: usize, action: usize) -> Option<usize> {
         let edge = payload(self.record(node)[HEADER + action]);
         (edge != PAYLOAD).then_some(edge as usize)
