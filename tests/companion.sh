@@ -1,10 +1,11 @@
 #!/bin/bash
 # The companion (companion/) and the example of the call Findings in C (examples/findings.c). Of each show, and of cut and damaged files, both print the
-# lines of BIN, an independent program that reads a show on standard input, and end with the status that the lines stand for. Then trouble, arguments,
-# and ./bulanevior, with stand-ins for what builds. `tests/companion.sh BIN` prints `ok` at the end, or what differs.
+# lines of BIN, an independent program that reads a show on standard input, and end with the status that the lines stand for. What the companion draws of
+# them, and of shows by tests/graphs.py, is held to the lines of FACTS, an independent program too (tests/drawing.py). Then trouble, arguments, and ./bulanevior, with stand-ins for what
+# builds. `tests/companion.sh BIN FACTS` prints `ok` at the end, or what differs.
 set -eu
-[ $# -eq 1 ] || { echo "usage: tests/companion.sh BIN"; exit 2; }
-bin=$(readlink -f "$1")
+[ $# -eq 2 ] || { echo "usage: tests/companion.sh BIN FACTS"; exit 2; }
+bin=$(readlink -f "$1") facts=$(readlink -f "$2")
 cd "$(dirname "$(readlink -f "$0")")/.."
 export room=$(mktemp -d)
 trap 'rm -rf "$room"' EXIT
@@ -16,7 +17,7 @@ fail() { # LINE
     exit 1
 }
 
-[ -x "$bin" ] || fail "$1 is no program"
+[ -x "$bin" ] && [ -x "$facts" ] || fail "$1 or $2 is no program"
 [ -f "$library" ] || rt staticlib exports >"$room/rt" 2>&1 || { cat "$room/rt"; exit 1; }
 cc -std=c11 -O2 -Wall -Wextra -Werror -pedantic -Iinclude examples/findings.c "$library" -o "$example"
 cd companion
@@ -50,7 +51,7 @@ prints() { # COMMAND..
 }
 
 # Both programs print what BIN prints of a show; the companion also where it comes on standard input.
-compared=0
+compared=()
 same() { # SHOW
     local status=0
     "$bin" <"$1" >"$room/expected" || status=$?
@@ -58,7 +59,7 @@ same() { # SHOW
     prints "$example" "$1"
     prints "$companion" findings "$1"
     prints "$companion" findings <"$1"
-    compared=$((compared + 1))
+    compared+=("$1")
 }
 
 # The same, and these are the lines.
@@ -110,7 +111,9 @@ for size in 65535 65536 65537 65540; do
     head -c $size /dev/zero >"$room/zeros-$size"
     same "$room/zeros-$size"
 done
-[ "$compared" -gt 250 ] || fail "only $compared shows were compared"
+[ "${#compared[@]}" -gt 250 ] || fail "only ${#compared[@]} shows were compared"
+python3 -B tests/graphs.py "$room" 100
+python3 -B tests/drawing.py "$companion" "$facts" "${compared[@]}" "$room"/made-* || fail "not drawn as $facts says"
 
 # ---- trouble: status 2, a message on standard error, and nothing on standard output, where there is one
 
@@ -124,11 +127,14 @@ complains() { # BEGINNING COMMAND LINE
     troubled "$2"
     [ "$(wc -l <"$room/err")" -eq 1 ] && [[ $(<"$room/err") == "bulanevior: $1"* ]] || fail "$2: $(<"$room/err")"
 }
-for run in '$example' '$companion findings' '$companion findings --'; do
+for run in '$example' '$companion findings' '$companion findings --' '$companion draw' '$companion draw --'; do
     for file in '$room/missing' '$room' /proc/self/mem; do
         troubled "$run $file"
     done
-    for show in shows/fade.words '$room/bare' shows/cut_logic.words shows/cut_byte.words; do
+    # What is no show goes to standard error, if it is to be drawn, and harms no output.
+    refused='shows/cut_logic.words shows/cut_byte.words'
+    case $run in *draw*) refused= ;; esac
+    for show in shows/fade.words '$room/bare' $refused; do
         for output in '>/dev/full' '>&-' '1</dev/null' '<&- >&-'; do
             troubled "$run $show $output"
         done
@@ -138,18 +144,22 @@ for run in '$example' '$companion findings' '$companion findings --'; do
     done
 done
 for input in '' - -- '-- -'; do
-    complains 'cannot read standard input: ' "\$companion findings $input <&-"
-    complains 'cannot read standard input: ' "\$companion findings $input </"
+    for command in findings draw; do
+        complains 'cannot read standard input: ' "\$companion $command $input <&-"
+        complains 'cannot read standard input: ' "\$companion $command $input </"
+    done
 done
 complains 'cannot read standard input: ' 'python3 -B tests/feed.py reset shows/fade.words -- $companion findings'
 complains 'cannot read "a\nb": ' '$companion findings "$(printf "a\nb")"'
 for output in '>/dev/full' '>&-' '1</dev/null'; do
-    for line in 'findings shows/fade.words' --help --version; do
+    for line in 'findings shows/fade.words' 'draw shows/fade.words' 'draw shows/rig8.words' --help --version; do
         complains 'cannot write to standard output: ' "\$companion $line $output"
     done
 done
 for mode in gone ignored full; do
-    complains 'cannot write to standard output: ' "python3 -B tests/feed.py $mode -- \$companion findings shows/fade.words"
+    for line in 'findings shows/fade.words' 'draw shows/rig8.words'; do
+        complains 'cannot write to standard output: ' "python3 -B tests/feed.py $mode -- \$companion $line"
+    done
 done
 # What is closed and not wanted does no harm.
 echo 'safe: nodes 1, edges 2' >"$room/expected"
@@ -157,12 +167,41 @@ prints "$companion" findings shows/fade.words <&-
 prints bash -c '$companion findings shows/fade.words 2>&-'
 prints bash -c 'cat shows/fade.words | $companion findings -'
 
+# ---- drawings: the same from a file and from standard input; of what is no show the sentence of findings, on standard error
+
+draws() { # STATUS COMMAND LINE
+    local status=0
+    bash -c "$2" >"$room/out" 2>"$room/err" || status=$?
+    [ "$status" -eq "$1" ] && [ ! -s "$room/err" ] && diff "$room/svg" "$room/out" >/dev/null || fail "$2: status $status, another drawing"
+}
+"$companion" draw shows/fade.words >"$room/svg" || fail "draw: status $?"
+[ "$(head -c 5 "$room/svg")" = '<svg ' ] && [ "$(tail -n 1 "$room/svg")" = '</svg>' ] || fail "draw: no SVG"
+draws 0 '$companion draw -- shows/fade.words <&-'
+draws 0 '$companion draw <shows/fade.words'
+draws 0 'cat shows/fade.words | $companion draw -'
+draws 0 '$companion draw shows/fade.words 2>&-'
+"$companion" draw "$room/bare" >"$room/svg" && fail "draw: bare is safe"
+draws 1 '$companion draw "$room/bare"'
+: >"$room/empty"
+for show in shows/cut_logic.words shows/cut_byte.words shows/cut_lemma.words shows/empty.words "$room/empty" "$room/zeros-65540"; do
+    "$companion" findings "$show" >"$room/said" && fail "$show is safe"
+    for output in '' '>/dev/full' '>&-'; do
+        status=0
+        bash -c "\$companion draw '$show' $output" >"$room/out" 2>"$room/err" || status=$?
+        [ "$status" -eq 3 ] && [ ! -s "$room/out" ] && diff "$room/said" "$room/err" || fail "draw $show $output: status $status"
+    done
+done
+for name in house bakery; do
+    "$companion" draw "shows/$name.words" | cmp - "docs/$name.svg" || fail "docs/$name.svg is not what draw makes of shows/$name.words"
+done
+
 # ---- arguments
 
 cp shows/fade.words "$room/--help"
 prints bash -c 'cd "$room" && $companion findings -- --help'
 for line in '' - -- finding --findings --verbose shows/fade.words 'findings --help' 'findings -x' 'findings ""' 'findings shows/fade.words shows/fade.words' \
-    'findings shows/fade.words --' 'help findings' '--help findings' '--version findings' "\$'find\\xffings'"; do
+    'findings shows/fade.words --' 'help findings' '--help findings' '--version findings' "\$'find\\xffings'" drawing --draw 'draw --help' 'draw -x' 'draw ""' \
+    'draw shows/fade.words shows/fade.words' 'draw shows/fade.words --' 'draw findings shows/fade.words' 'help draw'; do
     troubled "\$companion $line"
     [[ $(<"$room/err") == "Usage: bulanevior COMMAND [--] [FILE]"* ]] || fail "bulanevior $line: not the usage"
 done

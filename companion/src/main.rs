@@ -1,11 +1,24 @@
-//! The companion, a program for people: `bulanevior COMMAND [--] [FILE]`. Whatever it says of a show comes from the proved calls;
-//! it only puts it into words.
+//! The companion, a program for people: `bulanevior COMMAND [--] [FILE]`. Whatever it says or draws of a show comes from the proved
+//! calls; it only puts it into words, and into places in a picture.
 //!
 //! The exit status: 0 safe; 1 findings; 3 the show is refused, cut or too long; 2 trouble, and there is no answer.
 
+mod curves;
+mod drawing;
 mod file;
 mod findings;
+mod geometry;
+mod graph;
+mod grid;
+mod layout;
 mod output;
+mod plan;
+mod rim;
+mod routes;
+mod search;
+mod svg;
+mod titles;
+mod verdict;
 
 use file::Source;
 use output::{Said, Status};
@@ -21,11 +34,18 @@ struct Command {
     run: fn(&[u8]) -> Result<Said, String>,
 }
 
-const COMMANDS: &[Command] = &[Command {
-    name: "findings",
-    prints: "all findings, one line each, with the actions that lead there",
-    run: findings::run,
-}];
+const COMMANDS: &[Command] = &[
+    Command {
+        name: "findings",
+        prints: "all findings, one line each, with the actions that lead there",
+        run: findings::run,
+    },
+    Command {
+        name: "draw",
+        prints: "the graph as an SVG, with the path to the first finding",
+        run: drawing::run,
+    },
+];
 
 /// What the arguments ask for.
 enum Wanted {
@@ -54,12 +74,12 @@ fn usage() -> String {
         .collect();
     format!(
         "Usage: bulanevior COMMAND [--] [FILE]
-Says in words what the proved calls answer for the show in FILE; on standard input without FILE, or for -.
+Says in words, or draws, what the proved calls answer for the show in FILE; on standard input without FILE, or for -.
 {commands}  help       this text, as --help, and --version the version: each alone
 Status: 0  safe
         1  findings
         2  trouble: no answer, and the reason on standard error
-        3  the show is refused, cut or too long"
+        3  the show is refused, cut or too long; there is no drawing then, and the reason is on standard error"
     )
 }
 

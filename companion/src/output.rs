@@ -18,13 +18,32 @@ pub enum Status {
 /// What is to be printed, in lines without their newlines, and the exit status that goes with it.
 pub struct Said {
     pub lines: Box<dyn Iterator<Item = String>>,
+    /// Is it for standard error, and standard output stays empty?
+    pub aside: bool,
     pub status: Status,
 }
 
 impl Said {
+    pub fn lines(lines: impl Iterator<Item = String> + 'static, status: Status) -> Said {
+        let lines = Box::new(lines);
+        Said {
+            lines,
+            aside: false,
+            status,
+        }
+    }
+
     pub fn line(line: String, status: Status) -> Said {
-        let lines = Box::new(std::iter::once(line));
-        Said { lines, status }
+        Said::lines(std::iter::once(line), status)
+    }
+
+    /// A line on standard error, if it can be said there.
+    pub fn aside(line: String, status: Status) -> Said {
+        let aside = true;
+        Said {
+            aside,
+            ..Said::line(line, status)
+        }
     }
 }
 
@@ -33,6 +52,10 @@ const PIECE: usize = 1 << 16;
 
 /// Prints all lines, and gives the status; or the trouble.
 pub fn print(said: Said) -> Result<Status, String> {
+    if said.aside {
+        said.lines.for_each(|line| mention(&line));
+        return Ok(said.status);
+    }
     match write(said.lines) {
         Ok(()) => Ok(said.status),
         Err(e) => Err(format!("cannot write to standard output: {e}")),
@@ -57,8 +80,12 @@ fn write(lines: impl Iterator<Item = String>) -> std::io::Result<()> {
 
 /// Says on standard error, if it can be said there, why there is no answer.
 pub fn complain(why: &str) -> Status {
-    let _ = writeln!(std::io::stderr(), "{why}");
+    mention(why);
     Status::Trouble
+}
+
+fn mention(line: &str) {
+    let _ = writeln!(std::io::stderr(), "{line}");
 }
 
 /// Which of standard input and output were closed when the program began? The runtime opens /dev/null in their place before

@@ -207,19 +207,55 @@ fn of_finding_words() {
 #[test]
 fn of_records() {
     let mut graph = [0; 18];
-    graph[..6].copy_from_slice(&[0x8000_0001, 0xB000_1FFF, 0, 0xC000_0001, 0xC000_0000, 0xCFFF_FFFF]);
-    graph[6..12].copy_from_slice(&[0x8000_4000, 0xB000_0002, 1, 0xC000_0000, 0xC000_0001, 0xCFFF_FFFF]);
-    let read = |graph: &[u32], actions, node| (origin(graph, actions, node), distance(graph, actions, node));
+    graph[..6].copy_from_slice(&[
+        0x8000_0001,
+        0xB000_1FFF,
+        0,
+        0xC000_0001,
+        0xC000_0000,
+        0xCFFF_FFFF,
+    ]);
+    graph[6..12].copy_from_slice(&[
+        0x8000_4000,
+        0xB000_0002,
+        1,
+        0xC000_0000,
+        0xC000_0001,
+        0xCFFF_FFFF,
+    ]);
+    let read = |graph: &[u32], actions, node| {
+        (origin(graph, actions, node), distance(graph, actions, node))
+    };
     assert_eq!(header(&graph, 3, 1), Some([0x8000_4000, 0xB000_0002, 1]));
+    assert_eq!(
+        (
+            known(&graph, 3, 0),
+            known(&graph, 3, 1),
+            known(&graph, 3, 2)
+        ),
+        (Some((1, 0)), Some((0, 1)), None)
+    );
     assert_eq!(read(&graph, 3, 0), (None, Some(0)));
     assert_eq!(read(&graph, 3, 1), (Some((0, 2)), Some(1)));
     assert_eq!(read(&graph[..9], 3, 1), (Some((0, 2)), Some(1)));
     // Behind the last node, cut within a record, another count of actions, and where no number is large enough.
-    for (length, actions, node) in [(18, 3, 2), (18, 3, 3), (8, 3, 1), (18, 2, 1), (18, usize::MAX, 2), (18, 3, usize::MAX)] {
-        assert_eq!(read(&graph[..length], actions, node), (None, None), "{length} {actions} {node}");
+    for (length, actions, node) in [
+        (18, 3, 2),
+        (18, 3, 3),
+        (8, 3, 1),
+        (18, 2, 1),
+        (18, usize::MAX, 2),
+        (18, 3, usize::MAX),
+    ] {
+        assert_eq!(
+            read(&graph[..length], actions, node),
+            (None, None),
+            "{length} {actions} {node}"
+        );
     }
-    (graph[7], graph[8]) = (0xB000_1FFE, 511);
+    (graph[6], graph[7], graph[8]) = (0x8800_6005, 0xB000_1FFE, 511);
     assert_eq!(read(&graph, 3, 1), (Some((511, 14)), Some(511)));
+    assert_eq!(known(&graph, 3, 1), Some((0x2005, 0x2001)));
     // A record without its DISTANCE word, as libraries before 0.7.0 have it.
     graph[8] = 0xC000_0000;
     assert_eq!(read(&graph, 3, 1), (None, None));

@@ -509,6 +509,13 @@ pub fn header(graph: &[u32], actions: usize, node: usize) -> Option<[u32; HEADER
     there.then_some(words)
 }
 
+/// What is known at a node, by its SETS word in such a list: the predicates that hold and those that fail, predicate p in bit p.
+/// None where the list has no such record.
+pub fn known(graph: &[u32], actions: usize, node: usize) -> Option<(u32, u32)> {
+    let word = header(graph, actions, node)?[0];
+    Some((word & 0x3FFF, payload(word) >> 14))
+}
+
 /// Where a node was first found, by its ORIGIN word in such a list: its parent and the action. None for node 0, and where the
 /// list has no such record.
 pub fn origin(graph: &[u32], actions: usize, node: usize) -> Option<(usize, usize)> {

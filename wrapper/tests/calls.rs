@@ -167,7 +167,10 @@ fn finds() {
     let ends = [(0, End::Low), (0, End::High), (1, End::Low), (1, End::High)];
     assert!(listed(&list).eq(ends.map(|(action, end)| run_off(action, end))));
     assert_eq!(list[4..], [0, 0]);
-    assert_eq!((origin(&graph, 2, 0), distance(&graph, 2, 0)), (None, Some(0)));
+    assert_eq!(
+        (origin(&graph, 2, 0), distance(&graph, 2, 0)),
+        (None, Some(0))
+    );
     assert_eq!(distance(&graph, 2, 1), None);
     list = [7; 6];
     let short = &mut list[..3];
