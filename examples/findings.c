@@ -46,7 +46,8 @@ static int find_way(uint32_t node, size_t actions)
     int count = 0;
     while (node != 0) {
         size_t place = node * (BNV_HEADER_WORDS + actions) + 1;
-        if (count == BNV_MOST_NODES || place >= BNV_GRAPH_WORDS || BNV_KIND(graph[place]) != BNV_ORIGIN)
+        if (count == BNV_MOST_NODES || place + 1 >= BNV_GRAPH_WORDS || BNV_KIND(graph[place]) != BNV_ORIGIN
+            || BNV_KIND(graph[place + 1]) != BNV_DISTANCE)
             return -1;
         way[count++] = graph[place] & 15u;
         node = graph[place] >> 4 & 511u;

@@ -19,7 +19,14 @@ fail() { # LINE
 
 [ -x "$bin" ] && [ -x "$facts" ] || fail "$1 or $2 is no program"
 [ -f "$library" ] || rt staticlib exports >"$room/rt" 2>&1 || { cat "$room/rt"; exit 1; }
-cc -std=c11 -O2 -Wall -Wextra -Werror -pedantic -Iinclude examples/findings.c "$library" -o "$example"
+strict="-std=c11 -O2 -Wall -Wextra -Werror -pedantic -Iinclude -Iexamples"
+cc $strict examples/findings.c "$library" -o "$example"
+# Records without the distance, as older libraries leave them: node 3 of one action is looked for where the ORIGIN word of node 4 stands.
+printf '%s\n' '#define main found' '#include "findings.c"' '#undef main' 'int main(void) { for (size_t n = 0; n < 8; n++) {' \
+    'graph[3 * n] = 0x80000000u; graph[3 * n + 1] = n ? 0xB0000000u : 0xB0001FFFu; graph[3 * n + 2] = 0xC0000000u; }' \
+    'return find_way(3, 1) != -1; }' >"$room/older.c"
+cc $strict "$room/older.c" "$library" -o "$room/older"
+"$room/older" || fail "examples/findings.c: a path in the records of an older library"
 cd companion
 cargo build --release --offline --locked --quiet
 cargo test --release --offline --locked --quiet >"$room/tests" 2>&1 || { cat "$room/tests"; exit 1; }

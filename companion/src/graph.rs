@@ -71,7 +71,7 @@ impl Graph {
     }
 }
 
-/// What the graph list has of a node. Node 0, and no other, is in the middle.
+/// What the graph list has of a node. Node 0 is in the middle, and any other one ring further out than the node it was found from.
 fn known_node(show: &Judged, node: usize) -> Option<Node> {
     let (holds, fails) = known(&show.graph, show.actions, node)?;
     let ring = distance(&show.graph, show.actions, node)?;
@@ -82,7 +82,10 @@ fn known_node(show: &Judged, node: usize) -> Option<Node> {
             holds: holds == 1,
         }),
     };
-    let there = (ring == 0) == (node == 0) && ring < show.judgement.nodes;
+    let there = match origin(&show.graph, show.actions, node) {
+        None => (node, ring) == (0, 0),
+        Some((parent, _)) => ring == 1 + distance(&show.graph, show.actions, parent)?,
+    };
     there.then(|| Node {
         ring,
         literals: (0..14).filter_map(literal).collect(),
@@ -159,6 +162,23 @@ mod tests {
         assert_eq!(house.edges, edges);
         assert_eq!((house.finding, house.rings()), (None, 2));
         assert!(house.path.is_empty() && !house.on_path(0));
+    }
+
+    /// Records that no graph has: a ring without nodes, a second node in the middle, a node of which there is no record.
+    #[test]
+    fn of_another_list() {
+        let Ok(Answer::Judged(mut show)) = judge(include_bytes!("../../shows/house.words")) else {
+            panic!();
+        };
+        let third = HEADER_WORDS + show.actions + 2;
+        for word in [2, 0, 0xC000_0000] {
+            show.graph[third] = word;
+            assert!(Graph::read(&show).is_err(), "{word:08X}");
+        }
+        show.graph[third] = 1;
+        assert!(Graph::read(&show).is_ok());
+        show.judgement.nodes += 1;
+        assert!(Graph::read(&show).is_err());
     }
 
     /// Bump may run off at node 1, to which action 0 leads.

@@ -81,8 +81,8 @@ pub fn plan(graph: &Graph) -> Plan {
     let task = task(graph, &wanted);
     let places = task.places(many);
     let mut best: Option<(Faults, Plan)> = None;
+    let mut scale = 1.0;
     for round in 0..ROUNDS {
-        let scale = 1.2_f64.powi(round);
         let framed = |(&half, &middle): (&Point, &Point)| Frame {
             middle: middle * scale,
             half,
@@ -108,6 +108,7 @@ pub fn plan(graph: &Graph) -> Plan {
         if many || !worth(left, graph.nodes.len(), round) {
             break;
         }
+        scale *= 1.2;
     }
     best.map(|(_, plan)| plan).unwrap_or_default()
 }

@@ -9,8 +9,7 @@ use Rattle.words.proofs.Laws.{kind-word, payload-word}
 use Rattle.grammar.specs.Programs.{Program}
 use Rattle.lemmas.specs.Lemmas.{Lemma}
 use Rattle.search.specs.Search.{Graph, count, distance}
-use Rattle.records.specs.Records.{mostNodes, distanceWord, recordPlace}
-use Rattle.records.specs.Steps.{distanceOffset}
+use Rattle.records.specs.Records.{mostNodes, distanceWord, distanceOffset, recordPlace}
 use Rattle.records.proofs.Listed.{record-at}
 use Rattle.abstraction.proofs.Unique.{distance-number, distance-path}
 use Rattle.verdict.specs.Verdicts.{stepsTo}

@@ -20,7 +20,7 @@ use Rattle.rack.specs.Rack.{rackState, rackRun, rackCall}
 use Rattle.frame.specs.Frame.{zeroOn, untouched}
 use Rattle.formula.specs.Formula.{False, And, Disabled, Then, follows}
 use Rattle.search.specs.Search.{Graph, count, distance}
-use Rattle.records.specs.{Records.{recordPlace}, Steps.{distanceOffset}}
+use Rattle.records.specs.Records.{distanceOffset, recordPlace}
 use Rattle.abstraction.specs.{Abstraction.{among, shown, successor, graph}, Faithful.{Faithful}}
 use Rattle.verdict.specs.Verdicts.{Finding, findings, stepsTo}
 use Rattle.sheet.specs.Sheets.{findingWord, Fits, Due, Sheet, Told}

@@ -11,8 +11,8 @@ use lib.ListN.{length, take, drop, getD, length-append, length-drop, take-append
 use lib.Seq.{getD-append-add, take-add, getD-take, getD-drop, getD-at, ext-getD, length-take-le}
 use Rattle.search.specs.Search.{Root, Graph, edge}
 use Rattle.search.proofs.Count.{lt-or-le}
-use Rattle.records.specs.Records.{originWord, distanceWord, edgeWord, header, stride, recordPlace, edgePlace, edgeRow, nodeRecord, recordsOf}
-use Rattle.records.specs.Steps.{originOffset, distanceOffset, Kept}
+use Rattle.records.specs.Records.{originWord, distanceWord, edgeWord, header, stride, distanceOffset, recordPlace, edgePlace, edgeRow, nodeRecord, recordsOf}
+use Rattle.records.specs.Steps.{originOffset, Kept}
 use Rattle.records.proofs.Places.{row-within, column-at, mapped-at}
 
 row-length : (a : ℕ) (g : Graph) (k j : ℕ) → length (edgeRow a g k j) ≡ j

@@ -16,8 +16,8 @@ use lib.Seq.{drop-append-le, drop-set-lt, getD-set-same, getD-set-other, getD-at
 use Rattle.integers.proofs.Fill.{getD-mapped}
 use Rattle.search.specs.Search.{seek}
 use Rattle.search.proofs.Count.{lt-or-le, eq-or-ne, seek-found, seek-bound, seek-le}
-use Rattle.records.specs.Records.{mostNodes, header, graphWords, stride, recordPlace}
-use Rattle.records.specs.Steps.{originOffset, distanceOffset, headed, column, Firsts}
+use Rattle.records.specs.Records.{mostNodes, header, graphWords, stride, distanceOffset, recordPlace}
+use Rattle.records.specs.Steps.{originOffset, headed, column, Firsts}
 
 pub row-within : (i n s : ℕ) → i < n → i * s + s ≤ n * s
 row-within i n s h = omega (arith, mul-le-mul-right s h, suc-mul i s)
@@ -33,7 +33,7 @@ pub rooms : (n k a : ℕ) → n ≤ mostNodes → a ≤ 16 → k < n → (record
 rooms n k a few ha hk = (row-within k n (stride a) hk, most n a few ha)
 
 -- ---- columns
-pub column-length : (l : List ℕ) (a c n : ℕ) → length (column l a c n) ≡ n
+column-length : (l : List ℕ) (a c n : ℕ) → length (column l a c n) ≡ n
 unfolding column
 column-length l a c zero = refl
 column-length l a c (suc n) = length-append (column l a c n) (getD l (recordPlace a n + c) 0 ∷ []) ∙ omega (arith, column-length l a c n)

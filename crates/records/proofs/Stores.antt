@@ -1,5 +1,6 @@
 -- What stores of words do to a list that holds a graph:
 --     kept-linked, kept-stored    an edge of a node; a record more
+--     near-linked, near-stored    each distance is still at most its node's number
 --     known, full, fresh, none    one action's turn: to a node that is there, to one too many, to a new one, to none
 use mathlib.Core.Path.{_≡_, refl, sym, ap, _∙_}
 use mathlib.Core.Logic.{inl, inr, ⊎-elim}
@@ -13,9 +14,9 @@ use lib.ListN.{length, drop, getD, set, length-append, List·getD-append}
 use lib.Seq.{getD-set-same, getD-set-other, drop-set-lt, drop-drop, getD-at}
 use Rattle.search.specs.Search.{Answer, To, None, Origin, From, Graph, count, distance, distanceBy, linksIn, seek, stored, linked, answered}
 use Rattle.search.proofs.Count.{same-place, lt-or-le}
-use Rattle.records.specs.Records.{originWord, distanceWord, edgeWord, mostNodes, graphWords, header, stride, recordPlace, edgePlace}
+use Rattle.records.specs.Records.{originWord, distanceWord, edgeWord, mostNodes, graphWords, header, stride, distanceOffset, recordPlace, edgePlace}
 use Rattle.records.specs.declared.Explored.the-variants.{Whole, Full}
-use Rattle.records.specs.Steps.{originOffset, distanceOffset, headed, column, Firsts, Near, Kept, Turned}
+use Rattle.records.specs.Steps.{originOffset, headed, column, Firsts, Near, Kept, Turned}
 use Rattle.records.proofs.Places.{row-within, most, rooms, one-more, column-same, mapped-at, headed-length, headed-drop, headed-other, headed-word, headed-origin, headed-distance, firsts-more, not-there}
 
 -- 1 for an edge that leads to a node

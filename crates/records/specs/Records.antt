@@ -3,6 +3,7 @@
 -- edgeWord, originWord, distanceWord — the words of an edge, of an origin and of a distance
 -- stride                 — how many words a record has
 -- recordPlace, edgePlace — where a record begins; where an edge of it stands
+-- distanceOffset         — where in a record its distance stands
 -- edgeRow, nodeRecord, recordsOf — the first j edge words of node k; the record of node k; the first n records
 -- listOf, graphList      — the list that a search leaves: the records, then zeros up to its room, then what was there
 use Prim.Native.Nat.{ℕ, zero, suc, _+_, _*_, _-_}
@@ -31,6 +32,9 @@ stride a = header + a
 
 abbrev pub recordPlace : ℕ → ℕ → ℕ
 recordPlace a k = k * stride a
+
+abbrev pub distanceOffset : ℕ
+distanceOffset = 2
 
 abbrev pub edgePlace : ℕ → ℕ → ℕ → ℕ
 edgePlace a k j = recordPlace a k + (header + j)

@@ -1,6 +1,6 @@
 -- What the steps of a search do to the list that it writes the records in.
 --
--- originOffset, distanceOffset — where in a record its origin stands, and its distance
+-- originOffset — where in a record its origin stands
 -- headed — a list with a record at a place: its word, the words of its origin and its distance, as yet no edges
 -- exploredOf — what a search answers: the number of nodes and of edges that lead to a node, or that there are too many nodes
 -- column — word c of each of the first n records
@@ -17,15 +17,12 @@ use mathlib.Core.Path.{_≡_}
 use mathlib.Core.List.{List, [], _∷_, _++_, map}
 use lib.ListN.{length, drop, getD, set}
 use Rattle.search.specs.Search.{Graph, Result, Done, Over, count, links, edge, seek}
-use Rattle.records.specs.Records.{originWord, distanceWord, edgeWord, mostNodes, graphWords, recordPlace, edgePlace, recordsOf}
+use Rattle.records.specs.Records.{originWord, distanceWord, edgeWord, mostNodes, graphWords, distanceOffset, recordPlace, edgePlace, recordsOf}
 use Rattle.records.specs.declared.Explored.{Explored}
 use Rattle.records.specs.declared.Explored.the-variants.{Whole, Full}
 
 abbrev pub originOffset : ℕ
 originOffset = 1
-
-abbrev pub distanceOffset : ℕ
-distanceOffset = 2
 
 abbrev pub headed : List ℕ → ℕ → ℕ → ℕ → ℕ → List ℕ
 headed l p w o d = set (set (set l p w) (p + originOffset) o) (p + distanceOffset) d

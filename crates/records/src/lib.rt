@@ -4,8 +4,9 @@ ghost use mathlib.Core.List.{_++_};
 ghost use Prim.Native.Nat.{_+_, _*_, _<_, _≤_};
 ghost use lib.ListN.{length, drop, getD, replicate};
 ghost use Rattle.search.specs.Search.{To, None, Root, From, seek, answered};
-ghost use Rattle.records.specs.Records.{edgeWord, originWord, distanceWord, mostNodes, header, graphWords, stride, recordPlace, edgePlace};
-ghost use Rattle.records.specs.Steps.{distanceOffset, headed, column, hintCount, Firsts, Near, Turned};
+ghost use Rattle.records.specs.Records.{edgeWord, originWord, distanceWord, mostNodes, header, graphWords};
+ghost use Rattle.records.specs.Records.{stride, distanceOffset, recordPlace, edgePlace};
+ghost use Rattle.records.specs.Steps.{headed, column, hintCount, Firsts, Near, Turned};
 use words::Kind;
 
 // What a search answers.
@@ -67,14 +68,6 @@ pub fn root_word() -> u32
     Kind::ORIGIN.word(words::NO_PARENT)
 }
 
-// The word of a node's distance.
-fn distance_word(d: u32) -> u32
-    requires { ⌜ d < mostNodes ⌝ }
-    ensures { λ r. ⌜ r ≡ distanceWord d ⌝ }
-{
-    Kind::DISTANCE.word(d)
-}
-
 // The first n words become zero.
 pub fn clear(list: &mut [u32], n: usize)
     requires { ⌜ n ≤ length (now list) ⌝ }
@@ -130,8 +123,9 @@ pub fn word_at(graph: &[u32], actions: usize, k: usize) -> u32
 
 // The distance of node k, which is its word's payload: the kind is 0.
 fn distance_at(graph: &[u32], actions: usize, k: usize) -> u32
-    requires { ⌜ (graphWords ≤ length (now graph)) × (actions ≤ 16) × (k < mostNodes) ⌝ }
-    ensures { λ r. ⌜ r ≡ getD (now (graph .entry)) (recordPlace actions k + distanceOffset) 0 ⌝ }
+    requires { ⌜ (graphWords ≤ length (now graph)) × (actions ≤ 16) × (k < mostNodes)
+        × (getD (now graph) (recordPlace actions k + distanceOffset) 0 ≤ k) ⌝ }
+    ensures { λ r. ⌜ (r ≡ getD (now (graph .entry)) (recordPlace actions k + distanceOffset) 0) × (r ≤ k) ⌝ }
 {
     let at = record_place(actions, k);
     graph[at + DISTANCE_OFFSET]
@@ -144,7 +138,7 @@ fn store(graph: &mut [u32], at: usize, w: u32, origin: u32, distance: u32)
 {
     graph[at] = w;
     graph[at + ORIGIN_OFFSET] = origin;
-    graph[at + DISTANCE_OFFSET] = distance_word(distance);
+    graph[at + DISTANCE_OFFSET] = Kind::DISTANCE.word(distance);
 }
 
 // Node 0, as yet without edges.

@@ -54,7 +54,7 @@ module _ (start : Answer) (next : ℕ → ℕ → Answer) (a limit : ℕ) where
   Holds P Over = Many (Reach start next a) (suc limit)
 
   -- the parent of a node comes before it
-  pub older : (ws : List ℕ) (i : ℕ) (o : Origin) → Comes start next a ws i o → Below i o
+  older : (ws : List ℕ) (i : ℕ) (o : Origin) → Comes start next a ws i o → Below i o
   older ws i Root c = tt
   older ws i (From p j) c = c .0
 

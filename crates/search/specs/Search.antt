@@ -76,12 +76,8 @@ abbrev pub empty : Graph
 empty = record { words = []; origins = []; distances = []; edges = [] }
 
 abbrev pub stored : Graph → Origin → ℕ → Graph
-stored g o w = record {
-  words = g .words ++ (w ∷ []);
-  origins = g .origins ++ (o ∷ []);
-  distances = g .distances ++ (distanceBy (g .distances) o ∷ []);
-  edges = g .edges;
-}
+stored g o w =
+    record { words = g .words ++ (w ∷ []); origins = g .origins ++ (o ∷ []); distances = g .distances ++ (distanceBy (g .distances) o ∷ []); edges = g .edges }
 
 abbrev pub linked : Graph → Answer → Graph
 linked g e = record { words = g .words; origins = g .origins; distances = g .distances; edges = g .edges ++ (e ∷ []) }

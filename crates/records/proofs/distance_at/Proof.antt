@@ -1,3 +1,4 @@
+use mathlib.Core.Path.{refl}
 use borrow.Author.Needs.{needs}
 use Rattle.records.proofs.distance_at.Statement.{statement}
 use Rattle.records.proofs.distance_at.Tie as tie
@@ -15,7 +16,7 @@ shared-slice-read-result : tie.Need-shared-slice-read-result
 shared-slice-read-result c = search needs
 
 returns : tie.Need-returns
-returns c = rw (c .before .record-place .ensures .0)
+returns c = let p = c .before in rw (p .record-place .ensures .0) (refl, p .before .before .pre .3)
 
 pub distance-at-spec : {M : Type 1} → statement M
 distance-at-spec =

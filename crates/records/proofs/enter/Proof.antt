@@ -69,7 +69,9 @@ record-place-requires : tie.Need-record-place-requires
 record-place-requires c κs = search needs
 
 distance-at-requires : tie.Need-distance-at-requires
-distance-at-requires c κs = search needs
+distance-at-requires c κs =
+    let u = c .before .before .before .before .before .before .before .before .before .before .before in
+    (search needs, search needs, search needs, u .pre .7 _ (omega arith))
 
 origin-word-requires : tie.Need-origin-word-requires
 origin-word-requires c κs = search needs
@@ -80,7 +82,7 @@ few c =
     let d = c .before .before in
     let p = d .before .before .before in
     let u = p .before .before .before .before .before .before .before .before .before in
-    omega (arith, u .pre .7 (u .args .k) (omega arith), d .distance-at .ensures, p .if2 .left)
+    omega (arith, u .pre, d .distance-at .ensures, p .if2 .left)
 
 add-store : tie.Need-add-store
 add-store c = omega (arith, few c)
@@ -121,7 +123,7 @@ returns-3 c =
     let u = s .before .before .before .before .before in
     let a = u .args in (
       rw (t .store .ensures, r .edge-place .ensures .0, n .record-place .ensures .0)
-          (fresh (a .graph .now) (a .actions) (a .nodes) (a .edges) (a .k) (a .j) (omega arith) (omega arith) (omega arith) (omega arith) (omega arith) (omega arith) (u .pre .7) (a .w) (c .edge-word2 .result) (t .before .origin-word .result) (d .distance-at .result) (s .find .result) (s .find .ensures .1) (q .if1 .left) (omega (arith, p .if2 .left)) (t .before .origin-word .ensures) (d .distance-at .ensures) (c .edge-word2 .ensures)),
+          (fresh (a .graph .now) (a .actions) (a .nodes) (a .edges) (a .k) (a .j) (omega arith) (omega arith) (omega arith) (omega arith) (omega arith) (omega arith) (u .pre .7) (a .w) (c .edge-word2 .result) (t .before .origin-word .result) (d .distance-at .result) (s .find .result) (s .find .ensures .1) (q .if1 .left) (omega (arith, p .if2 .left)) (t .before .origin-word .ensures) (d .distance-at .ensures .0) (c .edge-word2 .ensures)),
       simp length-set (omega arith),
     )
 

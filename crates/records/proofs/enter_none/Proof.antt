@@ -1,5 +1,4 @@
 use native.Mathlib.Omega.{arith}
-use Rattle.search.specs.Search.{From}
 use Rattle.records.proofs.Stores.{none}
 use borrow.Author.Needs.{needs}
 use Rattle.records.proofs.enter_none.Statement.{statement}

@@ -19,8 +19,8 @@ mul-graph-2 c = search needs
 slice-write-graph-2 : tie.Need-slice-write-graph-2
 slice-write-graph-2 c = simp length-set (omega arith)
 
-distance-word-requires : tie.Need-distance-word-requires
-distance-word-requires c κs = search needs
+word-requires : tie.Need-word-requires
+word-requires c κs = search needs
 
 add-graph-2 : tie.Need-add-graph-2
 add-graph-2 c = search needs
@@ -35,7 +35,7 @@ same-length : tie.Need-same-length
 same-length c = search needs
 
 returns : tie.Need-returns
-returns c = rw (c .distance-word .ensures)
+returns c = rw (c .word .ensures)
 
 pub store-spec : {M : Type 1} → statement M
 store-spec =
@@ -46,7 +46,7 @@ store-spec =
     add-graph
     mul-graph-2
     slice-write-graph-2
-    distance-word-requires
+    word-requires
     add-graph-2
     mul-graph-3
     slice-write-graph-3
