@@ -88,7 +88,7 @@ add-store : tie.Need-add-store
 add-store c = omega (arith, few c)
 
 store-requires : tie.Need-store-requires
-store-requires c κs = (search needs, few c)
+store-requires c κs = (search needs, omega (arith, few c))
 
 edge-word-requires-2 : tie.Need-edge-word-requires-2
 edge-word-requires-2 c κs = search needs
