@@ -9,7 +9,7 @@ use std::collections::BTreeSet;
 
 /// With more nodes than that the arrows have no labels.
 pub const LABELLED: usize = 50;
-/// Up to so many nodes there is always room to lead each arrow past the nodes.
+/// Up to so many nodes larger rings are tried until each arrow leads past the nodes.
 const FEW: usize = 12;
 /// How often the rings are made larger at the most.
 const ROUNDS: i32 = 12;
