@@ -7,3 +7,4 @@ pub mod Reached
 pub mod Order
 pub mod Demand2
 pub mod Unique
+pub mod Shortest
