@@ -104,16 +104,24 @@ module _ (ws lemmas gl : List ℕ) where
   pub survey-worth : Worth ws lemmas gl (surveyProgram (read ws) lemmas gl)
   survey-worth = program-worth (read ws) refl
 
+-- ---- what holds of the refusals of short lists and of a survey judged holds of Judge
+module _ (ws lemmas gl pl : List ℕ) (P : Judgement → Type 0) where
+  by-test : (b : Bool) (x y : Judgement) → P x → P y → P (cond b x y)
+  by-test true x y h k = h
+  by-test false x y h k = k
+
+  pub of-judge : ((n : ℕ) → P (keep (Refused (Short n)) gl pl)) → P (judgeSurvey (surveyProgram (read ws) lemmas gl) pl) → P (judge ws lemmas gl pl)
+  of-judge short rest =
+      let inner = judgeSurvey (surveyProgram (read ws) lemmas gl) pl in
+      by-test (ltb (length gl) graphWords) (keep (Refused (Short 0)) gl pl) (cond (ltb (length pl) pathWords) (keep (Refused (Short 1)) gl pl) inner) (short 0)
+      (by-test (ltb (length pl) pathWords) (keep (Refused (Short 1)) gl pl) inner (short 1) rest)
+
 -- ---- demand 2
 -- of a judgement, with the two lists at entry
 abbrev Worthy : List ℕ → List ℕ → List ℕ → List ℕ → Judgement → Type 0
 Worthy ws lemmas gl pl j = Demand2Of ws lemmas (j .answer) gl (j .graph) pl (j .path)
 
 module _ (ws lemmas gl pl : List ℕ) where
-  if-worthy : (b : Bool) (x y : Judgement) → Worthy ws lemmas gl pl x → Worthy ws lemmas gl pl y → Worthy ws lemmas gl pl (cond b x y)
-  if-worthy true x y h k = h
-  if-worthy false x y h k = k
-
   module _ (p : Program) (ls : List Lemma) (g : Graph) (gl′ : List ℕ) (k : Known ws lemmas gl p ls g gl′) where
     walked : (n : ℕ) → n < count g → Walked p g n pl (pathList (stepsTo g n) pl)
     walked n h = record {
@@ -134,11 +142,8 @@ module _ (ws lemmas gl pl : List ℕ) where
 
   pub judge-demand2 : Worthy ws lemmas gl pl (judge ws lemmas gl pl)
   judge-demand2 =
-      let inner = judgeSurvey (surveyProgram (read ws) lemmas gl) pl in
-      if-worthy (ltb (length gl) graphWords) (keep (Refused (Short 0)) gl pl) (cond (ltb (length pl) pathWords) (keep (Refused (Short 1)) gl pl) inner)
-      (other (Short 0) (λ z. omega arith))
-      (if-worthy (ltb (length pl) pathWords) (keep (Refused (Short 1)) gl pl) inner (other (Short 1) (λ z. omega arith))
-      (survey-worthy (surveyProgram (read ws) lemmas gl) (survey-worth ws lemmas gl)))
+      of-judge ws lemmas gl pl (Worthy ws lemmas gl pl) (λ n. other (Short n) (λ z. omega arith))
+      (survey-worthy (surveyProgram (read ws) lemmas gl) (survey-worth ws lemmas gl))
 
 -- ---- demand 3
 refused-safe : {P : Type 0} {r : Refusal} {n e : ℕ} → Refused r ≡ IsSafe n e → P
@@ -149,18 +154,11 @@ no-finding g [] h = refl
 no-finding g (Forbid k b ∷ fs) h = let z : _≡_ {A = ℕ} 0 1 = cc in absurd (omega arith)
 no-finding g (RunOff k j v high ∷ fs) h = let z : _≡_ {A = ℕ} 0 1 = cc in absurd (omega arith)
 
--- an answer by a test
-by-test : (b : Bool) (x y : Judgement) {P : Type 0} {n e : ℕ} → cond b x y .answer ≡ IsSafe n e → (x .answer ≡ IsSafe n e → P) → (y .answer ≡ IsSafe n e → P) → P
-by-test true x y h f g = f h
-by-test false x y h f g = g h
-
 module _ (ws lemmas gl pl : List ℕ) {n e : ℕ} where
   survey-safe : (s : Survey) → Worth ws lemmas gl s → judgeSurvey s pl .answer ≡ IsSafe n e → SafeOf (read ws)
   survey-safe (stops r gl′) w h = refused-safe h
   survey-safe (draws p ls g gl′) w h = w .safe-if (no-finding g (findings p ls g) h)
 
   pub judge-safe : judge ws lemmas gl pl .answer ≡ IsSafe n e → SafeOf (read ws)
-  judge-safe h =
-      let inner = judgeSurvey (surveyProgram (read ws) lemmas gl) pl in
-      by-test (ltb (length gl) graphWords) (keep (Refused (Short 0)) gl pl) (cond (ltb (length pl) pathWords) (keep (Refused (Short 1)) gl pl) inner) h refused-safe (λ k.
-      by-test (ltb (length pl) pathWords) (keep (Refused (Short 1)) gl pl) inner k refused-safe (survey-safe (surveyProgram (read ws) lemmas gl) (survey-worth ws lemmas gl)))
+  judge-safe =
+      of-judge ws lemmas gl pl (λ j. j .answer ≡ IsSafe n e → SafeOf (read ws)) (λ k. refused-safe) (survey-safe (surveyProgram (read ws) lemmas gl) (survey-worth ws lemmas gl))

@@ -20,10 +20,12 @@ use Rattle.survey.specs.Ready.{Complete, SurveyBy, SurveyOf}
 use Rattle.survey.specs.declared.Surveyed.{Surveyed}
 use Rattle.judge.specs.Calls.{Judgement, verdict, pathTo, judge, judgeSurvey}
 use Rattle.judge.specs.Worth.{Demand2Of, SafeOf}
+use Rattle.judge.specs.Shortest.{ShortestOf}
 use Rattle.judge.specs.declared.Judged.{Judged}
 use Rattle.judge.specs.declared.Judged.the-variants.{Refused}
 use Rattle.judge.specs.declared.Judged.the-variants.{Safe as IsSafe}
 use Rattle.judge.proofs.Promised.{judge-demand2, judge-safe}
+use Rattle.judge.proofs.Shortest.{judge-shortest}
 
 -- an answer and two lists are those of a judgement
 abbrev Gives : Judgement → Judged → List ℕ → List ℕ → Type 0
@@ -33,10 +35,10 @@ module _ (ws lemmas gl pl : List ℕ) where
   abbrev pub Promises : Judged → List ℕ → List ℕ → Type 0
   Promises r gl′ pl′ =
       (r ≡ judge ws lemmas gl pl .answer) × ((gl′ ≡ judge ws lemmas gl pl .graph) × ((pl′ ≡ judge ws lemmas gl pl .path)
-      × (Demand2Of ws lemmas r gl gl′ pl pl′ × ((n e : ℕ) → r ≡ IsSafe n e → SafeOf (read ws)))))
+      × (Demand2Of ws lemmas r gl gl′ pl pl′ × (((n e : ℕ) → r ≡ IsSafe n e → SafeOf (read ws)) × ShortestOf ws lemmas r gl′ pl′))))
 
   promised : {r : Judged} {gl′ pl′ : List ℕ} → Gives (judge ws lemmas gl pl) r gl′ pl′ → Promises r gl′ pl′
-  promised h = (h .0, (h .1 .0, (h .1 .1, (rw (h .0, h .1 .0, h .1 .1) (judge-demand2 ws lemmas gl pl), λ n e k. judge-safe ws lemmas gl pl (sym (h .0) ∙ k)))))
+  promised h = (h .0, (h .1 .0, (h .1 .1, (rw (h .0, h .1 .0, h .1 .1) (judge-demand2 ws lemmas gl pl), (λ n e k. judge-safe ws lemmas gl pl (sym (h .0) ∙ k), rw (h .0, h .1 .0, h .1 .1) (judge-shortest ws lemmas gl pl))))))
 
   pub short-graph : length gl < graphWords → Promises (Refused (Short 0)) gl pl
   short-graph h = let e = lt-ltb (length gl) graphWords h in promised (rw e refl, (rw e refl, rw e refl))

@@ -15,6 +15,7 @@ ghost use Rattle.verdict.specs.Verdicts.{findings, pathWords, pathList};
 ghost use Rattle.verdict.specs.Working.{foundOf, Within};
 ghost use Rattle.judge.specs.Calls.{verdict, pathTo, judge};
 ghost use Rattle.judge.specs.Worth.{Demand2Of, SafeOf};
+ghost use Rattle.judge.specs.Shortest.{ShortestOf};
 ghost use Rattle.judge.specs.declared.Judged.the-variants.{Safe};
 use programs::Image;
 use programs::Status;
@@ -114,6 +115,7 @@ pub fn judge(words: &[u32], lemmas: &[u32], graph: &mut [u32], path: &mut [u32])
     ensures demand2 { λ r. ⌜ Demand2Of (now (words .entry)) (now (lemmas .entry)) r
         (now (graph .entry)) (now (graph .exit)) (now (path .entry)) (now (path .exit)) ⌝ }
     ensures demand3 { λ r. ⌜ ((nodes edges : ℕ) → r ≡ Safe nodes edges → SafeOf (read (now (words .entry)))) ⌝ }
+    ensures shortest { λ r. ⌜ ShortestOf (now (words .entry)) (now (lemmas .entry)) r (now (graph .exit)) (now (path .exit)) ⌝ }
 {
     if graph.len() < records::ROOM {
         return Judged::Refused(Refusal::Short(0));

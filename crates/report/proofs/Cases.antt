@@ -1,5 +1,5 @@
 -- Each way through a report.
-use mathlib.Core.Path.{_≡_, refl, sym}
+use mathlib.Core.Path.{_≡_, refl, sym, ap, _∙_}
 use mathlib.Core.Bool.{Bool, true, false, cond}
 use mathlib.Core.List.{List, [], _++_, cons≢nil}
 use Prim.Native.Nat.{ℕ, _<_, _≤_}
@@ -15,8 +15,9 @@ use Rattle.show.specs.Show.{mostBytes, showWords, ofBytes, show, SafeShow}
 use Rattle.lines.specs.Text.{text}
 use Rattle.lines.specs.Puts.{Put}
 use Rattle.lines.proofs.Puts.{at-front}
-use Rattle.report.specs.Report.{linesRoom, zeros, shownLines, linesOf, written, Begins}
+use Rattle.report.specs.Report.{linesRoom, zeros, shownLines, linesOf, written, pathLine, Begins, Ends, ShortestShow}
 use Rattle.report.proofs.SafeLine.{show-safe}
+use Rattle.report.proofs.PathLine.{no-lines, path-line}
 
 -- the lists that are lent are fresh, and there is room for the words
 pub with-fresh : (b wl gl pl : List ℕ) (a : Shown) (q : List ℕ) → showWords ≤ length wl → gl ≡ zeros graphWords → pl ≡ zeros pathWords
@@ -40,11 +41,21 @@ module _ (b lines : List ℕ) where
   pub reported : {out : List ℕ} {r : ℕ} → linesRoom ≤ length lines → Put lines 0 (linesOf b) out r → Reported b lines out r
   reported h p = rw (le-ltb (length lines) linesRoom h) (at-front p)
 
--- what was written begins with SAFE: a list that is too short gets nothing
-pub written-safe : (b lines : List ℕ) {out : List ℕ} {r : ℕ} → Reported b lines out r → Begins (text "SAFE") (take r out) → SafeShow b
-written-safe b lines {out} {r} p h =
-    go (ltb (length lines) linesRoom) (rw (p .0, take-at (written b lines) (drop (length (written b lines)) lines) r (sym (p .1))) at h)
-  where
-    go : (short : Bool) → Begins (text "SAFE") (cond short [] (linesOf b)) → SafeShow b
-    go true q = absurd (cons≢nil (sym q))
-    go false q = show-safe b q
+-- what is said of the lines is said of what was written: a list that is too short gets nothing
+module _ (b lines : List ℕ) {out : List ℕ} {r : ℕ} (p : Reported b lines out r) where
+  taken : take r out ≡ written b lines
+  taken = ap (take r) (p .0) ∙ take-at (written b lines) (drop (length (written b lines)) lines) r (sym (p .1))
+
+  pub written-safe : Begins (text "SAFE") (take r out) → SafeShow b
+  written-safe h = go (ltb (length lines) linesRoom) (rw taken at h)
+    where
+      go : (short : Bool) → Begins (text "SAFE") (cond short [] (linesOf b)) → SafeShow b
+      go true q = absurd (cons≢nil (sym q))
+      go false q = show-safe b q
+
+  pub written-shortest : (js : List ℕ) → Ends (pathLine js) (take r out) → ShortestShow b (length js)
+  written-shortest js h = go (ltb (length lines) linesRoom) (rw taken at h)
+    where
+      go : (short : Bool) → Ends (pathLine js) (cond short [] (linesOf b)) → ShortestShow b (length js)
+      go true q = no-lines js q
+      go false q = path-line b js q

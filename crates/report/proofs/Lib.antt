@@ -3,4 +3,5 @@ pub mod Sizes
 pub mod Paths
 pub mod Short
 pub mod SafeLine
+pub mod PathLine
 pub mod Cases

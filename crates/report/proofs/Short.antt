@@ -1,5 +1,4 @@
 -- The lines of every answer of Judge have room in 4,096 bytes.
-use mathlib.Core.Path.{_≡_, refl}
 use mathlib.Core.Bool.{Bool, true, false, cond}
 use mathlib.Core.List.{List, [], _∷_}
 use Prim.Native.Nat.{ℕ, _+_, _%_, _<_, _≤_}
@@ -13,23 +12,24 @@ use Rattle.grammar.specs.Programs.{Program}
 use Rattle.grammar.specs.WellFormed.{WellFormed, Each}
 use Rattle.programs.specs.Calls.{read}
 use Rattle.lemmas.specs.Lemmas.{Lemma}
-use Rattle.search.specs.Search.{Graph, Done, count, links}
-use Rattle.records.specs.Records.{graphWords}
-use Rattle.abstraction.specs.Abstraction.{graph}
-use Rattle.verdict.specs.Verdicts.{Finding, Forbid, RunOff, findings, nodeOf, stepsTo, pathWords, pathList}
+use Rattle.search.specs.Search.{Graph, count, links}
+use Rattle.records.specs.Records.{mostNodes, graphWords}
+use Rattle.abstraction.specs.Faithful.{Faithful}
+use Rattle.verdict.specs.Verdicts.{Finding, Forbid, RunOff, findings, nodeOf, stepsIn, stepsTo, pathWords, pathList}
 use Rattle.survey.specs.Surveys.{Survey, stops, draws, surveyProgram}
-use Rattle.judge.specs.Calls.{Judgement, keep, verdict, pathTo, judgeSurvey, judge}
+use Rattle.judge.specs.Calls.{Judgement, verdict, pathTo, judgeSurvey, judge}
 use Rattle.judge.specs.declared.Judged.the-variants.{Refused}
 use Rattle.judge.proofs.Walks.{findings-within}
-use Rattle.judge.proofs.Promised.{Worth, survey-worth}
+use Rattle.judge.proofs.Promised.{Worth, survey-worth, of-judge}
+use Rattle.judge.proofs.Told.{steps-told}
 use Rattle.show.specs.declared.Shown.the-variants.{TooLong, OddBytes}
 use Rattle.show.specs.Show.{mostBytes, wordsIn, logicIn, lemmasIn, ofWords, ofBytes}
 use Rattle.lines.specs.Text.{text, decimal, line}
 use Rattle.lines.proofs.Puts.{length-line}
 use Rattle.lines.proofs.Decimals.{decimal-short}
-use Rattle.report.specs.Report.{linesRoom, zeros, stepsIn, forbidLine, endText, runOffLine, pathLine, answerLines, shownLines, linesOf}
+use Rattle.report.specs.Report.{linesRoom, zeros, forbidLine, endText, runOffLine, pathLine, answerLines, shownLines, linesOf}
 use Rattle.report.proofs.Sizes.{length-run-off, length-path}
-use Rattle.report.proofs.Paths.{steps-told, steps-room}
+use Rattle.report.proofs.Paths.{steps-room}
 
 abbrev Room : Judgement → Type 0
 Room j = length (answerLines (j .answer) (j .path)) ≤ linesRoom
@@ -48,13 +48,9 @@ end-short false = omega arith
 run-off-short : (n a v : ℕ) (high : Bool) → length (runOffLine n a v high) ≤ 96
 run-off-short n a v high = omega (arith, length-run-off n a v high, decimal-short n, decimal-short a, decimal-short v, end-short high)
 
-by-test : (b : Bool) (x y : Judgement) → Room x → Room y → Room (cond b x y)
-by-test true x y h k = h
-by-test false x y h k = k
-
-module _ (p : Program) (ok : WellFormed p) (ls : List Lemma) (g : Graph) (e : graph p ls ≡ Done g) where
+module _ (p : Program) (ok : WellFormed p) (ls : List Lemma) (g : Graph) (f : Faithful p ls g) (few : count g ≤ mostNodes) where
   path-short : (k : ℕ) → k < count g → length (pathLine (stepsIn (pathList (stepsTo g k) (zeros pathWords)))) ≤ 1541
-  path-short k h = rw (steps-told p ok ls g e k h) (omega (arith, length-path (stepsTo g k), steps-room p ok ls g e k h))
+  path-short k h = rw (steps-told p ok ls g f few k h (zeros pathWords)) (omega (arith, length-path (stepsTo g k), steps-room p ok ls g f few k h))
 
   finding-room : (fs : List Finding) → Each (λ f. nodeOf f < count g) fs → length (answerLines (verdict g fs) (pathList (pathTo g fs) (zeros pathWords))) ≤ linesRoom
   unfolding answerLines
@@ -64,15 +60,13 @@ module _ (p : Program) (ok : WellFormed p) (ls : List Lemma) (g : Graph) (e : gr
 
 survey-room : (ws lemmas gl : List ℕ) (s : Survey) → Worth ws lemmas gl s → Room (judgeSurvey s (zeros pathWords))
 survey-room ws lemmas gl (stops r gl′) w = refused-room r (zeros pathWords)
-survey-room ws lemmas gl (draws p ls g gl′) w = finding-room p (w .good) ls g (w .is) (findings p ls g) (findings-within p ls g)
+survey-room ws lemmas gl (draws p ls g gl′) w = finding-room p (w .good) ls g (w .drawn .faithful) (w .drawn .few) (findings p ls g) (findings-within p ls g)
 
 judged-room : (logic lemmas : List ℕ) → Room (judge logic lemmas (zeros graphWords) (zeros pathWords))
 judged-room logic lemmas =
     let gl = zeros graphWords in
     let pl = zeros pathWords in
-    let inner = judgeSurvey (surveyProgram (read logic) lemmas gl) pl in
-    by-test (ltb (length gl) graphWords) (keep (Refused (Short 0)) gl pl) (cond (ltb (length pl) pathWords) (keep (Refused (Short 1)) gl pl) inner) (refused-room (Short 0) pl)
-    (by-test (ltb (length pl) pathWords) (keep (Refused (Short 1)) gl pl) inner (refused-room (Short 1) pl) (survey-room logic lemmas gl (surveyProgram (read logic) lemmas gl) (survey-worth logic lemmas gl)))
+    of-judge logic lemmas gl pl Room (λ n. refused-room (Short n) pl) (survey-room logic lemmas gl (surveyProgram (read logic) lemmas gl) (survey-worth logic lemmas gl))
 
 pub lines-room : (b : List ℕ) → length (linesOf b) ≤ linesRoom
 unfolding linesOf shownLines ofBytes

@@ -9,10 +9,11 @@ use lib.Dec.{eqb}
 use lib.ListN.{length, drop, getD, length-append, drop-of-length-le}
 use lib.Seq.{drop-cons}
 use Rattle.words.specs.Words.{kindOf, payload, STEP}
+use Rattle.verdict.specs.Verdicts.{stepsIn}
 use Rattle.lines.specs.Text.{text, field}
 use Rattle.lines.specs.Puts.{Put}
 use Rattle.lines.proofs.Puts.{then-put, put-nothing}
-use Rattle.report.specs.Report.{stepsIn, stepText}
+use Rattle.report.specs.Report.{stepText}
 
 pub record Stepping (o : List ℕ) (at : ℕ) (path out : List ℕ) (place i : ℕ) : Type 0 where
   pub low : i ≤ length path

@@ -2,29 +2,33 @@
 --
 -- linesRoom    — how many bytes the lines of a show have room in
 -- zeros        — a fresh list
--- stepsIn      — the actions of the STEP words at the front of a path list
 -- safeLine, forbidLine, endText, runOffLine, refusedLine, stepText, pathLine — the lines, each with its newline, and their parts
 -- answerLines, shownLines — the lines of Judge's answer and its path list; of an answer for a show's bytes
 -- linesOf      — the lines of any bytes
 -- written      — what goes to a list of bytes: the lines; nothing if it has under 4,096
--- Begins       — a list begins with another
+-- Begins, Ends — a list begins, ends with another
+-- ShortestShow — request 7: the bytes hold a program and lemmas, and no walk in their graph from node 0 to a node with a finding has fewer than n steps
 use mathlib.Core.Path.{_≡_}
 use mathlib.Core.Bool.{Bool, cond}
 use mathlib.Core.List.{List, [], _∷_, _++_}
 use Prim.Native.Nat.{ℕ}
-use lib.Dec.{eqb, ltb}
+use lib.Dec.{ltb}
 use lib.ListN.{length, take, replicate}
 use Rattle.words.specs.declared.Refusal.{Refusal}
-use Rattle.words.specs.Words.{kindOf, payload, STEP}
 use Rattle.words.specs.Refusals.{number, value}
+use Rattle.programs.specs.Calls.{read}
+use Rattle.search.specs.Search.{Graph}
 use Rattle.records.specs.Records.{graphWords}
-use Rattle.verdict.specs.Verdicts.{pathWords}
+use Rattle.abstraction.specs.Faithful.{Faithful}
+use Rattle.verdict.specs.Verdicts.{pathWords, stepsIn}
+use Rattle.judge.specs.Worth.{OfRead}
+use Rattle.judge.specs.Shortest.{Least}
 use Rattle.judge.specs.declared.Judged.{Judged}
 use Rattle.judge.specs.declared.Judged.the-variants.{MayForbid, MayRunOff, Refused}
 use Rattle.judge.specs.declared.Judged.the-variants.{Safe as IsSafe}
 use Rattle.show.specs.declared.Shown.{Shown}
 use Rattle.show.specs.declared.Shown.the-variants.{WordsShort, TooLong, OddBytes, Answered}
-use Rattle.show.specs.Show.{ofBytes}
+use Rattle.show.specs.Show.{wordsIn, logicIn, lemmasIn, ofBytes}
 use Rattle.lines.specs.Text.{text, field, line}
 
 abbrev pub linesRoom : ℕ
@@ -32,10 +36,6 @@ linesRoom = 4096
 
 unfoldable pub zeros : ℕ → List ℕ
 zeros n = replicate n 0
-
-unfoldable pub stepsIn : List ℕ → List ℕ
-stepsIn [] = []
-stepsIn (w ∷ ws) = cond (eqb (kindOf w) STEP) (payload w ∷ stepsIn ws) []
 
 -- ---- the lines
 abbrev pub safeLine : ℕ → ℕ → List ℕ
@@ -83,3 +83,9 @@ written b lines = cond (ltb (length lines) linesRoom) [] (linesOf b)
 -- ---- what a line is worth
 abbrev pub Begins : List ℕ → List ℕ → Type 0
 Begins t l = take (length t) l ≡ t
+
+abbrev pub Ends : List ℕ → List ℕ → Type 0
+Ends t l = (front : List ℕ) × (l ≡ front ++ t)
+
+abbrev pub ShortestShow : List ℕ → ℕ → Type 0
+ShortestShow b n = OfRead (λ p ls. (g : Graph) × Faithful p ls g × Least p ls g n) (read (logicIn (wordsIn b))) (lemmasIn (wordsIn b))

@@ -4,12 +4,13 @@ ghost use mathlib.Core.List.{List, _++_};
 ghost use Prim.Native.Nat.{ℕ, _+_, _<_, _≤_};
 ghost use lib.ListN.{length, take, drop};
 ghost use Rattle.records.specs.Records.{graphWords};
-ghost use Rattle.verdict.specs.Verdicts.{pathWords};
+ghost use Rattle.verdict.specs.Verdicts.{pathWords, stepsIn};
 ghost use Rattle.lines.specs.Text.{text};
 ghost use Rattle.lines.specs.Puts.{Put};
 ghost use Rattle.show.specs.Show.{mostBytes, SafeShow};
-ghost use Rattle.report.specs.Report.{zeros, stepsIn, endText, runOffLine, refusedLine};
-ghost use Rattle.report.specs.Report.{stepText, pathLine, answerLines, shownLines, linesOf, written, Begins};
+ghost use Rattle.report.specs.Report.{zeros, endText, runOffLine, refusedLine};
+ghost use Rattle.report.specs.Report.{stepText, pathLine, answerLines, shownLines, linesOf, written};
+ghost use Rattle.report.specs.Report.{Begins, Ends, ShortestShow};
 use judge::Judged;
 use show::Shown;
 use words::Kind;
@@ -129,13 +130,15 @@ fn put_shown(out: &mut [u8], shown: Shown, path: &[u32]) -> usize
 }
 
 // The lines of any bytes, at the front of `lines`; answers how many bytes they have. Where `lines` has under 4,096 bytes it is left, and the
-// answer is 0. Of more than 65,536 bytes, those behind the first 65,537 change nothing. If what was written begins with SAFE, the logic in the input is safe.
+// answer is 0. Of more than 65,536 bytes, those behind the first 65,537 change nothing. If what was written begins with SAFE, the logic in the input is safe;
+// if it ends with a PATH line, no walk in the graph to a node with a finding has fewer steps.
 pub fn report(input: &[u8], lines: &mut [u8]) -> usize
     ensures lines { λ r. ⌜ (now (lines .exit)
         ≡ written (now (input .entry)) (now (lines .entry)) ++ drop (length (written (now (input .entry)) (now (lines .entry)))) (now (lines .entry)))
         × (r ≡ length (written (now (input .entry)) (now (lines .entry)))) ⌝ }
     ensures cut { λ _. ⌜ ((more : List ℕ) → mostBytes < length (now (input .entry)) → linesOf (now (input .entry) ++ more) ≡ linesOf (now (input .entry))) ⌝ }
     ensures safe { λ r. ⌜ (Begins (text "SAFE") (take r (now (lines .exit))) → SafeShow (now (input .entry))) ⌝ }
+    ensures shortest { λ r. ⌜ ((js : List ℕ) → Ends (pathLine js) (take r (now (lines .exit))) → ShortestShow (now (input .entry)) (length js)) ⌝ }
 {
     if lines.len() < 4096 {
         return 0;

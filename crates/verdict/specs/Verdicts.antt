@@ -10,12 +10,14 @@
 -- findingsAt, findingsFrom, findings — at node k; from node k on; of the graph
 -- nodeOf    — the node of a finding
 -- pathList  — the path in its list: STEP words, then zeros up to its room, then what was there
+-- stepsIn   — the actions of the STEP words at the front of a path list
 -- stepsTo   — the steps to node k
 use mathlib.Core.Bool.{Bool, true, false, cond, _||_}
 use mathlib.Core.List.{List, [], _∷_, _++_, map}
 use Prim.Native.Nat.{ℕ, zero, suc, _-_}
+use lib.Dec.{eqb}
 use lib.ListN.{length, drop, replicate}
-use Rattle.words.specs.Words.{word, STEP}
+use Rattle.words.specs.Words.{word, kindOf, payload, STEP}
 pub use Rattle.words.specs.Limits.{pathWords}
 use Rattle.words.specs.declared.Literals.{Literals}
 use Rattle.grammar.specs.Programs.{Assignment, Action, Program}
@@ -84,6 +86,10 @@ nodeOf (RunOff k j v high) = k
 -- The STEP words from node 0 to the node, at the front of the path list, the rest of its first 512 words zero.
 abbrev pub pathList : List ℕ → List ℕ → List ℕ
 pathList js l₀ = map (word STEP) js ++ (replicate (pathWords - length js) 0 ++ drop pathWords l₀)
+
+unfoldable pub stepsIn : List ℕ → List ℕ
+stepsIn [] = []
+stepsIn (w ∷ ws) = cond (eqb (kindOf w) STEP) (payload w ∷ stepsIn ws) []
 
 abbrev pub stepsTo : Graph → ℕ → List ℕ
 stepsTo g k = path (g .origins) mostNodes k

@@ -22,7 +22,7 @@ returns : tie.Need-returns
 returns c =
     let judged = c .before .before .before .before .before .judge in
     let said = judged .ensures in
-    (c .judge-of .ensures ∙ ap judgeOf (said .0), (said .1 .0, (said .1 .1 .0, (rw (c .judge-of .ensures) (judge-nonzero (judged .result)), λ h. let (n, e, is) = only-safe (judged .result) (sym (ap (λ (r : BnvJudge). r .verdict) (c .judge-of .ensures)) ∙ h) in said .1 .1 .1 .1 n e is))))
+    (c .judge-of .ensures ∙ ap judgeOf (said .0), (said .1 .0, (said .1 .1 .0, (rw (c .judge-of .ensures) (judge-nonzero (judged .result)), λ h. let (n, e, is) = only-safe (judged .result) (sym (ap (λ (r : BnvJudge). r .verdict) (c .judge-of .ensures)) ∙ h) in said .1 .1 .1 .1 .0 n e is))))
 
 pub bnv-judge-spec : {M : Type 1} → statement M
 bnv-judge-spec =

@@ -2,8 +2,9 @@ use mathlib.Core.List.{_++_}
 use Prim.Native.Nat.{_≤_}
 use native.Mathlib.Omega.{arith}
 use lib.ListN.{length, length-append}
+use Rattle.verdict.specs.Verdicts.{stepsIn}
 use Rattle.lines.proofs.Puts.{then-put}
-use Rattle.report.specs.Report.{stepsIn, safeLine, forbidLine, runOffLine, refusedLine, pathLine, answerLines}
+use Rattle.report.specs.Report.{safeLine, forbidLine, runOffLine, refusedLine, pathLine, answerLines}
 use borrow.Author.Needs.{needs}
 use Rattle.report.proofs.put_answer.Statement.{statement}
 use Rattle.report.proofs.put_answer.Tie as tie

@@ -1,8 +1,9 @@
 use native.Mathlib.Omega.{arith}
 use lib.ListN.{length-append}
+use Rattle.verdict.specs.Verdicts.{stepsIn}
 use Rattle.lines.specs.Text.{text}
 use Rattle.lines.proofs.Puts.{then-put}
-use Rattle.report.specs.Report.{stepsIn, stepText, pathLine}
+use Rattle.report.specs.Report.{stepText, pathLine}
 use Rattle.report.proofs.Sizes.{length-path}
 use borrow.Author.Needs.{needs}
 use Rattle.report.proofs.put_path.Statement.{statement}

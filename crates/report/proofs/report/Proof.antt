@@ -3,7 +3,7 @@ use native.Mathlib.Omega.{arith}
 use lib.ListN.{length}
 use Rattle.report.specs.Report.{shownLines, linesOf}
 use Rattle.report.proofs.Short.{lines-room}
-use Rattle.report.proofs.Cases.{with-fresh, cut, no-room, reported, written-safe}
+use Rattle.report.proofs.Cases.{with-fresh, cut, no-room, reported, written-safe, written-shortest}
 use borrow.Author.Needs.{needs}
 use Rattle.report.proofs.report.Statement.{statement}
 use Rattle.report.proofs.report.Tie as tie
@@ -12,7 +12,7 @@ returns : tie.Need-returns
 returns c =
     let a = c .before .before .before .args in
     let said = no-room (a .input .now) (a .lines .now) (omega arith) in
-    (said, (cut (a .input .now), written-safe (a .input .now) (a .lines .now) said))
+    (said, (cut (a .input .now), (written-safe (a .input .now) (a .lines .now) said, written-shortest (a .input .now) (a .lines .now) said)))
 
 space-requires : tie.Need-space-requires
 space-requires c κs = search needs
@@ -56,7 +56,7 @@ returns-2 : tie.Need-returns-2
 returns-2 c =
     let a = c .before .before .before .before .before .before .before .before .before .before .before .before .before .before .before .before .before .before .args in
     let said = reported (a .input .now) (a .lines .now) (omega arith) (rw (lines-are (c .before .before .before .before .before .before .before .before)) at (c .before .before .put-shown .ensures)) in
-    (said, (cut (a .input .now), written-safe (a .input .now) (a .lines .now) said))
+    (said, (cut (a .input .now), (written-safe (a .input .now) (a .lines .now) said, written-shortest (a .input .now) (a .lines .now) said)))
 
 pub report-spec : {M : Type 1} → statement M
 report-spec =
