@@ -5,7 +5,7 @@
     tests/believed.py --check    compares them with the list in README, and with where they stand
     tests/believed.py --write    writes the list into README
 
-Reached is what the `ensures` of a public call names, what the types on the page of promises name, and what the signature and the clauses of
+Reached is what the `ensures` of a public call names, what the types on the pages of promises name, and what the signature and the clauses of
 a definition that is reached name. A constructor reaches its type. The proofs behind the promises do not count.
 """
 import re
@@ -27,7 +27,7 @@ CALLS = {
     "report": ["report"],
     "exports": [],
 }
-PROMISES = [("promises", "proofs", "Promises"), ("promises", "proofs", "Further")]
+PROMISES = [("promises", "proofs", page) for page in ("Promises", "Further", "Worked")]
 README = ROOT / "README.md"
 BEGIN, END = "<!-- begin: tests/believed.py --write -->", "<!-- end -->"
 

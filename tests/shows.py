@@ -213,6 +213,32 @@ show("bump", logic([LEVEL, (0, 1)], [(0, {0: -1}), (0, {1: -1})], [ARMED], [
 ]), "RUNOFF node 1 action 1 variable 0 high", "PATH 0")
 
 # ---------------------------------------------------------------------------------------------------------------------
+# A shortcut: front light, house light and haze (variables 0, 1, 2; 0 or 1), all out at the start. Predicate k: variable k is at least 1.
+# Actions: 0 the house light on; 1 where the house light is out, the front light on; 2, a macro, both on at once; 3 where the front light is on, haze.
+# Forbidden: 0, front light and haze; 1, front light and house light.
+LIGHT = [(-1, {k: 1}) for k in range(3)]
+DOWN = [(0, {k: -1}) for k in range(3)]
+SHORTCUT = logic([(0, 1)] * 3, DOWN, LIGHT, [
+    action([], {1: (1, {})}),
+    action([DOWN[1]], {0: (1, {})}),
+    action([], {0: (1, {}), 1: (1, {})}),
+    action([LIGHT[0]], {2: (1, {})}),
+], [([], [0, 2]), ([], [0, 1])])
+SHORTCUT_LEMMAS = joined([
+    joined(lemma(START, FAILS, k, [1] + [int(i == k) for i in range(3)]) for k in range(3)),   # (x - 1) - x
+    lemma(1, NEVER, 0, [1, 1], true=[1]),                                          # house - 1 and -house
+    lemma(3, NEVER, 0, [1, 1], false=[0]),                                         # -front and front - 1
+    # what is set is 1: -(1 - 1) - 1; -1 - 1; -(1 - 1) - 1
+    joined(lemma(a, goal, v, [1] + [0] * guards) for a, v, guards in ((0, 1, 0), (1, 0, 1), (2, 0, 0), (2, 1, 0), (3, 2, 1)) for goal in (HOLDS, LOW, HIGH)),
+])
+
+# Node 0: all out. By action 0 node 1: house; by action 1 node 2: front; by action 2 node 3: front and house; action 3 cannot happen. Node 1 has actions
+# 0, to itself, and 2, to node 3. Node 2 has 0 and 2, to node 3, 1, to itself, and 3, to node 4: front and haze. Node 3 has 0 and 2, to itself, and 3, to
+# node 5: all three. Node 4 has 0 and 2, to node 5, and 1 and 3, to itself; node 5 has 0, 2 and 3, to itself. All ends are shown.
+# Findings: combination 1 at node 3, one press away by the macro though 1 0 and 0 2 lead there too; 0 at node 4, two away by 1 3; both at node 5, two away.
+show("shortcut", SHORTCUT + SHORTCUT_LEMMAS, "FORBID node 3 bad 1", "PATH 2")
+
+# ---------------------------------------------------------------------------------------------------------------------
 # The longest path: a counter of seven lamps and a fader of four steps (variable 7, 0..3), all 0 at the start. Action k < 7 carries to lamp k:
 # where the lamps below it are on and it is out, it goes on and they go out; action 7 carries to the fader. Predicate k < 7: lamp k is on;
 # 7, 8, 9: the fader is at least 1, 2, 3. Forbidden: all lamps on and the fader at 3.

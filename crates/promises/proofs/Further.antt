@@ -1,31 +1,31 @@
--- The promises of the requests, with their types and nothing else. The calls' own contracts, without any `requires` but `row_at`'s, which is no call from outside; all words are the lent lists' at entry:
---   findings::findings(ws, ls, g, f)    r, g and f at exit are those of listing ws ls g f; SheetOf of r and both lists; r ≡ All 0 → SafeOf (read ws);
---                                       Agrees with Judge's answer, and g at exit is Judge's                        crates/findings/src/lib.rt
+-- The promises of the requests, with their types and nothing else; what they say of worked shows is in Worked. The calls' own contracts, without any `requires` but `row_at`'s, which is no call from outside; all words are the lent lists' at entry:
+--   findings::findings(ws, ls, g, f)    r, g and f at exit are those of listing ws ls g f; SheetOf of r and both lists; r ≡ All 0 → SafeOf (read ws); Agrees with Judge's answer, and g at exit is Judge's  crates/findings/src/lib.rt
 --   reader::row_at(words, at, vars)     where vars ≤ 8 and at ≤ length words: r has the row and where reading goes on, or the refusal, of row vars (drop at words) at, and of fed (begun vars at) (drop at words)  crates/reader/src/lib.rt
 --   rack::rack_step(ws, k, s)           r and s at exit are those of rackCall ws k s                                  crates/rack/src/lib.rt
 --   runs::step, rack::rack_step         Guarded (ready (read ws) k s) k s r                                           crates/runs/src/lib.rt, crates/rack/src/lib.rt
+--   judge::judge, report::report        ShortestOf ws ls r, of g and p at exit; if what was written ends with pathLine js, ShortestShow input (length js)  crates/judge/src/lib.rt, crates/report/src/lib.rt
 --   exports::bnv_findings, _rack_step   the same, r as the records of numbers findingsOf and stepOf; the rack's answer is not 2; of both steps it is 1 exactly where row_value is below 0  crates/exports/src/lib.rt
-use mathlib.Core.{Path.{_≡_}, Bool.{true, false, cond}, Logic.{_⊎_, _↔_}, List.{List, [], _∷_, _++_, map, List·Memᴰ}}
+use mathlib.Core.{Path.{_≡_}, Bool.{true, false, cond}, Logic.{_⊎_, _↔_}, List.{List, _∷_, _++_, map, List·Memᴰ}}
 use Prim.Native.Nat.{ℕ, _+_, _^_, _≤_, _<_}
-use lib.{Dec.{eqb}, IntN.{ℤ, pos, negsuc, _+ℤ_, _*ℤ_}, Signed.{_≤ℤ_}, ListN.{length, getD}}
+use lib.{Dec.{eqb}, IntN.{ℤ, pos, _+ℤ_, _*ℤ_}, Signed.{_≤ℤ_}, ListN.{length, getD}}
 use Rattle.words.specs.{Words.{kindOf, payload, DISTANCE, FINDING, signed}, Limits.{mostNodes, mostFindings, mostVariables}, declared.Refusal.the-variants.{Word as Missing}, LiteralSets.{Literal, B, NotB, predicateOf, literalsIn}}
 use Rattle.rows.specs.{declared.Row.{Row}, Rows.{rowValue}}
 use Rattle.grammar.specs.{Reading.{got}, Programs.{Assignment, Action, Program}, WellFormed.{Each, WellFormed}, Grammar.{row}}
 use Rattle.feed.specs.{declared.Fed.the-variants.{End}, declared.Said.the-variants.{Complete, Refused}, Steps.{Held, place, rowStep, fed, begun}}
 use Rattle.lemmas.specs.{Lemmas.{HoldsAfter, FailsAfter, Lemma}, LemmaGrammar.{LemmaOk, setsVariable}}
 use Rattle.programs.specs.Calls.{read}
-use Rattle.runs.specs.{declared.Failing.{Failing}, declared.Stepped.the-variants.{Moved, NotEnabled, RunsOff}, Runs.{allHold, Inside, Start, newState, Finished, run}, Guards.{firstFailing, Near}, Calls.{stay, stepCall}}
+use Rattle.runs.specs.{declared.Failing.{Failing}, declared.Stepped.the-variants.{RunsOff}, Runs.{allHold, Inside, Start, newState, Finished, run}, Guards.{firstFailing, Near}, Calls.{stepCall}}
 use Rattle.sixteen.specs.Sixteen.{in16, cut, wrappedSum, wrappedProduct, wrappedValue}
 use Rattle.rack.specs.Rack.{rackState, rackRun, rackCall}
 use Rattle.frame.specs.Frame.{zeroOn, untouched}
 use Rattle.formula.specs.Formula.{False, And, Disabled, Then, follows}
-use Rattle.search.specs.Search.{Graph, count, distance}
+use Rattle.search.specs.{Search.{To, Graph, count, distance}, Paths.{Walk}}
 use Rattle.records.specs.Records.{distanceOffset, recordPlace}
 use Rattle.abstraction.specs.{Abstraction.{among, shown, successor, graph}, Faithful.{Faithful}}
 use Rattle.verdict.specs.Verdicts.{Finding, findings, stepsTo}
 use Rattle.sheet.specs.Sheets.{findingWord, Fits, Due, Sheet, Told}
-use Rattle.judge.specs.{declared.Judged.the-variants.{Safe as IsSafe}, Calls.{judge}, Worth.{Drawn}}
-use Rattle.worked.specs.Shows.{fade, incident, incidentProgram, nineTimes, row2}
+use Rattle.judge.specs.{declared.Judged.the-variants.{Safe as IsSafe}, Calls.{judge}, Worth.{Drawn}, Shortest.{walkEnd, ShortestOf}}
+use Rattle.report.specs.Report.{pathLine, linesOf, Ends, ShortestShow}
 
 -- ---- request 1: untouched predicates keep their literal
 -- a literal is in the successor exactly if an accepted lemma shows it, or the action leaves its predicate untouched and it is a literal of the node
@@ -96,25 +96,25 @@ pub rack-after-safe : (ws lemmas gl pl : List ℕ) (n e : ℕ) → judge ws lemm
     → (ks : List ℕ) → Each (λ k. k < length (p .actions)) ks → (rackRun p ks s ≡ run p ks s) × Each (λ t. (k : ℕ) → rackCall ws k t ≡ stepCall ws k t) (run p ks s .states)
 rack-after-safe ws lemmas gl pl n e h p q = Rattle.rack.proofs.Runs.after-safe ws p q (rw q at (Rattle.judge.proofs.Promised.judge-safe ws lemmas gl pl h))
 
--- it says something: 5 take 10 is minus 5, where Step runs off and the rack writes, and its run goes on; and where 4 and 5 times 8,191, which is 73,719, run off, it writes 8,183
-pub rack-incident : (stepCall incident 0 (pos 5 ∷ []) ≡ stay (RunsOff 0) (pos 5 ∷ [])) × (rackCall incident 0 (pos 5 ∷ []) ≡ record { answer = Moved; state = negsuc 4 ∷ [] })
-    × (rackRun incidentProgram (0 ∷ 0 ∷ []) (pos 5 ∷ []) .states ≡ (pos 5 ∷ []) ∷ (negsuc 4 ∷ []) ∷ (negsuc 14 ∷ []) ∷ [])
-    × (let s = pos 8191 ∷ pos 8191 ∷ [] in (stepCall nineTimes 0 s ≡ stay (RunsOff 0) s) × (rackCall nineTimes 0 s ≡ record { answer = Moved; state = pos 8183 ∷ pos 8191 ∷ [] }))
-rack-incident = Rattle.worked.proofs.Racks.incident-racked
-
 -- ---- request 5: how near it was
 -- rows all hold exactly where the first failing one's value is at least 0. Where one fails, firstFailing alone is near: the rows before it hold, and its exact value is below 0
 pub first-failing : (rows : List Row) (s : List ℤ) → ((allHold rows s ≡ true) ↔ (pos 0 ≤ℤ firstFailing rows s .value))
     × ((f : Failing) → Near rows s f ↔ ((allHold rows s ≡ false) × (f ≡ firstFailing rows s)))
 first-failing = Rattle.runs.proofs.Guards.first-failing
 
--- it says something: Fade's level of 0 lacks 5, for both steps; and of rows worth 0, -5 and -9 it is row 1 that lacks 5
-pub near-worked : (let lacks : ℕ → Failing = λ k. record { row = k; value = negsuc 4 } in let s = pos 0 ∷ [] in (stepCall fade 0 s ≡ stay (NotEnabled (lacks 0)) s) × (rackCall fade 0 s ≡ stay (NotEnabled (lacks 0)) s)
-    × (firstFailing (row2 (pos 1) (pos 0) (negsuc 4) ∷ row2 (pos 1) (pos 0) (negsuc 9) ∷ row2 (pos 1) (pos 0) (negsuc 13) ∷ []) (pos 5 ∷ []) ≡ lacks 1))
-near-worked = Rattle.worked.proofs.Near.near-worked
-
 -- ---- request 6: distance in the node record
 -- the third word of each record that a verdict leaves has kind 0, and its payload is the node's distance, which is the length of the path to it; Faithful has the distances, so that graph-faithful and graph-unique are of them too
 pub distance-words : (p : Program) (ls : List Lemma) (g : Graph) (n e : ℕ) (before after : List ℕ) → Drawn p ls g n e before after → (k : ℕ) → k < count g
     → let w = getD after (recordPlace (length (p .actions)) k + distanceOffset) 0 in (kindOf w ≡ DISTANCE) × (payload w ≡ distance g k) × (length (stepsTo g k) ≡ distance g k)
 distance-words = Rattle.judge.proofs.Distances.distance-words
+
+-- ---- request 7: the shortest press list
+-- where Judge's answer is a finding, no walk from node 0 to any node with a finding has fewer steps than there are STEP words in the path list, along the EDGE words of the graph list or in the graph; nor than a PATH line, in the show's graph
+pub shortest : ((ws lemmas gl pl : List ℕ) → let j = judge ws lemmas gl pl in ShortestOf ws lemmas (j .answer) (j .graph) (j .path))
+    × ((b js : List ℕ) → Ends (pathLine js) (linesOf b) → ShortestShow b (length js))
+shortest = (Rattle.judge.proofs.Shortest.judge-shortest, Rattle.report.proofs.PathLine.path-line)
+
+-- the walks along the words that a verdict leaves are the graph's; none from node 0 to a node has fewer steps than its distance, and distances never fall from one node to a later one
+pub walks : (p : Program) (ls : List Lemma) (g : Graph) (n e : ℕ) (before after : List ℕ) → Drawn p ls g n e before after → (k : ℕ) → k < count g → let a = length (p .actions) in
+    ((js : List ℕ) → ((walkEnd a after 0 js ≡ To k) ↔ Walk a g 0 js k) × (Walk a g 0 js k → distance g k ≤ length js)) × ((i : ℕ) → i ≤ k → distance g i ≤ distance g k)
+walks = Rattle.judge.proofs.Shortest.walks

@@ -5,3 +5,4 @@ pub mod Sheets
 pub mod Line
 pub mod Racks
 pub mod Near
+pub mod Shortest

@@ -23,7 +23,7 @@ fade-logic : (logicIn (fade ++ fadeLemmas) ≡ fade) × (lemmasIn (fade ++ fadeL
 unfolding logicLength
 fade-logic = (refl, refl)
 
-long : (n : ℕ) → n ≤ length (zeros n)
+pub long : (n : ℕ) → n ≤ length (zeros n)
 unfolding zeros
 long n = omega (arith, length-replicate {A = ℕ} n 0)
 

@@ -72,7 +72,7 @@ pub record Sheets : Type 0 where
 -- a graph list that is long enough passes the first test; whether the findings fit is the last one
 module _ (ws lemmas records : List ℕ) (fs : List Finding)
     (found : (gl fl : List ℕ) → listSurvey (surveyProgram (read ws) lemmas gl) fl ≡ listAll fs (records ++ (replicate (graphWords - length records) 0 ++ drop graphWords gl)) fl) where
-  fits : Lists ws lemmas (length fs) records (map findingWord fs)
+  pub fits : Lists ws lemmas (length fs) records (map findingWord fs)
   fits gl fl long room = rw (le-ltb (length gl) graphWords long) (found gl fl ∙ rw (le-ltb (length fl) (length fs) room) refl)
 
   short : Short ws lemmas (length fs) records

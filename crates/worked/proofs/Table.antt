@@ -79,7 +79,7 @@ abbrev pub Judges : List ℕ → List ℕ → Judged → List ℕ → List ℕ �
 Judges ws lemmas r records steps = (gl pl : List ℕ) → graphWords ≤ length gl → pathWords ≤ length pl → judge ws lemmas gl pl ≡ left r records steps gl pl
 
 -- long enough lists pass the two first tests
-judged : (ws lemmas : List ℕ) (r : Judged) (records steps : List ℕ) → ((gl pl : List ℕ) → judgeSurvey (surveyProgram (read ws) lemmas gl) pl ≡ left r records steps gl pl)
+pub judged : (ws lemmas : List ℕ) (r : Judged) (records steps : List ℕ) → ((gl pl : List ℕ) → judgeSurvey (surveyProgram (read ws) lemmas gl) pl ≡ left r records steps gl pl)
     → Judges ws lemmas r records steps
 judged ws lemmas r records steps h gl pl long roomy = rw (le-ltb (length gl) graphWords long, le-ltb (length pl) pathWords roomy) (h gl pl)
 
