@@ -1,7 +1,8 @@
 //! An independent implementation of document 01, "Show logic, lemmas and the abstract state graph",
 //! with requests 1, 2, 4, 5 and 6 of document 02, "Untouched predicates keep their literal", "Every finding
 //! on the sheet", "The rack's sixteen bits", "How near was it" and "Distance in the node record". Request 3,
-//! "Read a row once", changes no answer.
+//! "Read a row once", changes no answer; nor does request 7, "The shortest press list", whose walks are found
+//! by a module of their own, `walks`, from the EDGE words alone.
 
 pub mod bytes;
 pub mod drawing;
@@ -12,6 +13,7 @@ pub mod rack;
 pub mod records;
 pub mod sentences;
 pub mod shows;
+pub mod walks;
 pub mod words;
 
 pub use judge::{findings, judge};

@@ -358,6 +358,7 @@ pub fn cases() -> Vec<Case> {
     request_6(&mut book);
     request_2(&mut book);
     request_6_findings(&mut book);
+    request_7(&mut book);
     book.cases
 }
 
@@ -3135,4 +3136,404 @@ fn odd_record_views() -> Vec<View> {
         view("distance 511 behind EDGE", &far, (1, 1), (0, 0), Err((2, 3))),
         view("another word for the distance", &other, (1, 1), (0, 0), Ok(0)),
     ]
+}
+
+// ---------------------------------------------------------------------------------------------
+// Request 7: the shortest press list
+
+/// A show with findings, and what is worked out by hand: "no walk in the graph from node 0 to any node with a
+/// finding has fewer steps than the path in the verdict."
+#[derive(Clone, Debug)]
+pub struct Walked {
+    pub name: String,
+    pub text: Text,
+    pub lemmas: Vec<u32>,
+    /// Judge's answer.
+    pub hand: String,
+    /// The actions of its path.
+    pub path: Vec<usize>,
+    /// How many findings there are, and the distances at which there are some, rising.
+    pub count: usize,
+    pub rings: Vec<usize>,
+}
+
+/// Count and rings.
+type Found<'a> = (usize, &'a [usize]);
+
+fn walked(name: &str, show: (Text, Vec<u32>), hand: &str, path: &[usize], found: Found) -> Walked {
+    let (name, hand, (text, lemmas)) = (name.to_string(), hand.to_string(), show);
+    Walked { name, text, lemmas, hand, path: path.to_vec(), count: found.0, rings: found.1.to_vec() }
+}
+
+/// All shows of this request. The records have room for the small ones only (all of them together are to stay
+/// within 1,000,000 bytes); the tests ask for each.
+pub fn walk_shows() -> Vec<Walked> {
+    [small_walks(), near_walks(), far_walks(), run_off_walks(), long_walks(), known_walks()].concat()
+}
+
+fn judge_walk(book: &mut Book, show: &Walked) {
+    book.judge(&format!("walks: {}", show.name), &show.text.words(), &show.lemmas, &show.hand);
+}
+
+/// The list is one word longer than it need be.
+fn findings_walk(book: &mut Book, show: &Walked) {
+    let (name, list) = (format!("walks: {}", show.name), show.count as u32 + 1);
+    book.findings(&name, &show.text.words(), &show.lemmas, list, &found(show.count));
+}
+
+/// Behind all others: the records of Judge, then those of Findings, for the first six.
+fn request_7(book: &mut Book) {
+    let shows = small_walks();
+    shows.iter().for_each(|show| judge_walk(book, show));
+    shows[..6].iter().for_each(|show| findings_walk(book, show));
+}
+
+/// Records of Judge and of Findings for all shows of this request, and for some by chance: those that `cases`
+/// has no room for are here, too.
+pub fn walk_cases() -> Vec<Case> {
+    let mut book = Book::default();
+    let shows = walk_shows();
+    shows.iter().for_each(|show| judge_walk(&mut book, show));
+    shows.iter().for_each(|show| findings_walk(&mut book, show));
+    for seed in 0..6 {
+        for (name, (t, l)) in [("spread", spread(seed)), ("partial", partial(seed))] {
+            book.judge(&format!("walks: {name} {seed}"), &t.words(), &l, "");
+            book.findings(&format!("walks: {name} {seed}"), &t.words(), &l, 300, "");
+        }
+    }
+    book.cases
+}
+
+/// An action that sets these variables to 0.
+fn zeroing(variables: &[u32]) -> ActionText {
+    act(&[], &variables.iter().map(|v| (*v, row(0, &[]))).collect::<Vec<_>>())
+}
+
+/// A lemma by its negated goal alone. With variables from 0 to 0 any predicate "at least 0" is shown so.
+fn by_goal(t: &Text, source: u32, goal: u32, index: u32, holds: u32) -> Vec<u32> {
+    let mut multipliers = vec![0; t.due(source, goal, 0, holds)];
+    multipliers[0] = 1;
+    lemma(source, goal, index, 0, holds, &multipliers)
+}
+
+/// `bits` predicates of one variable that all hold at the start. Action 0 sets it, and shows each predicate
+/// where the next one is known: node n has the first `bits` - n of them, and the last leads to itself. So "P_i
+/// fails" is contradicted before node `bits` - i. The last six words are the lemmas of the ends.
+pub fn fading(bits: u32, bad: &[(u32, u32)]) -> (Text, Vec<u32>) {
+    let t = Text {
+        vars: vec![(0, 0)],
+        init: vec![],
+        pred: vec![row(0, &[(0, 1)]); bits as usize],
+        actions: vec![zeroing(&[0])],
+        bad: bad.to_vec(),
+    };
+    let start = (0..bits).flat_map(|i| by_goal(&t, START, 1, i, 0));
+    let l = start.chain((1..bits).flat_map(|i| by_goal(&t, 0, 1, i - 1, 1 << i))).chain(t.ends(0)).collect();
+    (t, l)
+}
+
+/// The same with two predicates, its high end shown only where this predicate is known.
+fn fading_off(bad: (u32, u32), known: u32) -> (Text, Vec<u32>) {
+    let (t, mut l) = fading(2, &[bad]);
+    l.truncate(l.len() - 3);
+    l.extend(by_goal(&t, 0, 4, 0, 1 << known));
+    (t, l)
+}
+
+/// Without its ends.
+fn fading_open() -> (Text, Vec<u32>) {
+    let (t, mut l) = fading(1, &[(1, 0)]);
+    l.truncate(l.len() - 6);
+    (t, l)
+}
+
+/// {P0, P1} goes by 0 to {P0}, and that to {}; action 1 leads to {} from everywhere.
+fn fading_at_once() -> (Text, Vec<u32>) {
+    let (mut t, mut l) = fading(2, &[(1, 0)]);
+    t.actions.push(zeroing(&[0]));
+    l.extend(t.ends(1));
+    (t, l)
+}
+
+/// P0 on variable 0 and P1 on variable 1 hold at the start; action i sets variable i: it loses P_i and keeps
+/// the other. 0 {P0, P1} goes to 1 {P1}, 2 {P0}; 1 to 1, 3 {}; 2 to 3, 2; 3 to itself.
+pub fn two_lost(bad: &[(u32, u32)]) -> (Text, Vec<u32>) {
+    let t = Text {
+        vars: vec![(0, 0); 2],
+        init: vec![],
+        pred: vec![row(0, &[(0, 1)]), row(0, &[(1, 1)])],
+        actions: vec![zeroing(&[0]), zeroing(&[1])],
+        bad: bad.to_vec(),
+    };
+    let l = [by_goal(&t, START, 1, 0, 0), by_goal(&t, START, 1, 1, 0), t.all_ends()].concat();
+    (t, l)
+}
+
+/// The same, and action 1 shows P0: 1 goes by it to 2, which is as far, and 3 to 2, which is nearer.
+fn one_shown(bad: &[(u32, u32)]) -> (Text, Vec<u32>) {
+    let (t, mut l) = two_lost(bad);
+    l.extend(by_goal(&t, 1, 1, 0, 0));
+    (t, l)
+}
+
+/// Judge's answer with a combination.
+fn at(node: u32, bad: u32, nodes: u32, edges: u32) -> String {
+    format!("FORBID node {node} bad {bad} nodes {nodes} edges {edges}")
+}
+
+/// The shows of the records. Where P0 and P1 hold at the start and action 0 fades them, the nodes are {P0,
+/// P1}, {P0} and {}.
+fn small_walks() -> Vec<Walked> {
+    let off = "RUNOFF node 1 action 0 variable 0 high nodes 3 edges 3";
+    let open = "RUNOFF node 0 action 0 variable 0 low nodes 2 edges 2";
+    let lower_later = fading(2, &[(1, 0), (2, 0)]);
+    let at_start = fading(1, &[(1, 0), (0, 1)]);
+    let each = fading(3, &[(1, 0), (2, 0), (4, 0)]);
+    let lost = two_lost(&[(2, 0), (1, 0)]);
+    vec![
+        // Not P0 at node 2, not P1 at nodes 1 and 2.
+        walked("lower combination farther", lower_later, &at(1, 1, 3, 3), &[0], (3, &[1, 2])),
+        // High at nodes 1 and 2, not P0 at node 2.
+        walked("run-off before a combination", fading_off((1, 0), 1), off, &[0], (3, &[1, 2])),
+        // Not P1 at nodes 1 and 2, high at node 2.
+        walked("combination before a run-off", fading_off((2, 0), 0), &at(1, 0, 3, 3), &[0], (3, &[1, 2])),
+        // Both ends at nodes 0 and 1, not P0 at node 1.
+        walked("ends at node 0", fading_open(), open, &[], (5, &[0, 1])),
+        // P0 at nodes 0 and 1, not P0 at node 1.
+        walked("combination at node 0", at_start, &at(0, 1, 2, 2), &[], (3, &[0, 1])),
+        // Not P0 at node 2, to which 0 0 leads, and 1.
+        walked("at once", fading_at_once(), &at(2, 0, 3, 6), &[1], (1, &[1])),
+        // Not P0 at nodes 1 and 3, not P1 at nodes 2 and 3.
+        walked("two at one distance", lost, &at(1, 1, 4, 8), &[0], (4, &[1, 2])),
+        // Neither at node 3.
+        walked("along and inward", one_shown(&[(3, 0)]), &at(3, 0, 4, 8), &[1, 0], (1, &[2])),
+        // Not P2 from node 1 on, not P1 from node 2 on, not P0 at node 3.
+        walked("three distances", each, &at(1, 2, 4, 4), &[0], (6, &[1, 2, 3])),
+    ]
+}
+
+/// A move: place, action, place.
+pub type Move = (u32, u32, u32);
+
+/// A graph as it is drawn: at place i P_i is known to hold, and nothing else; the start is place 0. An action
+/// without a move cannot happen there. Each combination is open at the places given and contradicted at the
+/// others. All actions set the one variable; their ends are shown, but the high one not at the places of
+/// `off`, given with the action. There are 14 places at most.
+pub fn drawn(places: u32, moves: &[Move], open: &[&[u32]], off: &[(u32, u32)]) -> (Text, Vec<u32>) {
+    let actions = moves.iter().map(|(_, action, _)| action + 1).max().unwrap_or(0);
+    let gone = |action: u32| -> Vec<u32> {
+        (0..places).filter(|place| !moves.iter().any(|(p, a, _)| (p, a) == (place, &action))).collect()
+    };
+    let bits = |set: &&[u32]| set.iter().fold(0, |bits, place| bits | 1 << place);
+    let guards = |action: u32| if gone(action).is_empty() { vec![] } else { vec![never()] };
+    let t = Text {
+        vars: vec![(0, 0)],
+        init: vec![],
+        pred: vec![row(0, &[(0, 1)]); places as usize],
+        actions: (0..actions).map(|action| act(&guards(action), &zeroing(&[0]).sets)).collect(),
+        bad: open.iter().map(|set| (((1 << places) - 1) & !bits(set), 0)).collect(),
+    };
+    let mut l = by_goal(&t, START, 1, 0, 0);
+    l.extend(moves.iter().flat_map(|(from, action, to)| by_goal(&t, *action, 1, *to, 1 << from)));
+    for action in 0..actions {
+        l.extend(gone(action).into_iter().flat_map(|place| t.forced(action, 0, 0, 0, 1 << place)));
+        l.extend(drawn_ends(&t, places, action, off));
+    }
+    (t, l)
+}
+
+/// The low end, and the high one at all places or at those that are not given.
+fn drawn_ends(t: &Text, places: u32, action: u32, off: &[(u32, u32)]) -> Vec<u32> {
+    let low = by_goal(t, action, 3, 0, 0);
+    if off.iter().all(|(_, other)| *other != action) {
+        return [low, by_goal(t, action, 4, 0, 0)].concat();
+    }
+    let shown = (0..places).filter(|place| !off.contains(&(*place, action)));
+    low.into_iter().chain(shown.flat_map(|place| by_goal(t, action, 4, 0, 1 << place))).collect()
+}
+
+/// The places one after another by action 0.
+fn in_a_row(places: u32) -> Vec<Move> {
+    (1..places).map(|place| (place - 1, 0, place)).collect()
+}
+
+/// These moves as well.
+fn and(mut moves: Vec<Move>, more: &[Move]) -> Vec<Move> {
+    moves.extend(more);
+    moves
+}
+
+/// Two arms from the start: the places 1 to `far` one after another by action 0, and `near` others by action 1
+/// and then 0, each with a finding at its end, that of the first one by combination 0. At each distance the
+/// first arm's node comes first. Where `near` is less than `far`, the verdict's node is 2 * `near` and its
+/// path 1 and then 0; where they are equal it is the one before and the path 0 only. Nodes 1 + `near` + `far`,
+/// one edge fewer; 13 at most together, and none of them 0.
+pub fn arms(near: u32, far: u32) -> (Text, Vec<u32>) {
+    let second: Vec<Move> = (far + 1..far + near).map(|place| (place, 0, place + 1)).collect();
+    let moves = and(and(in_a_row(far + 1), &[(0, 1, far + 1)]), &second);
+    drawn(1 + far + near, &moves, &[&[far], &[far + near]], &[])
+}
+
+/// Drawn by hand; where place and node differ, a remark says so.
+fn near_walks() -> Vec<Walked> {
+    let draw = |places: u32, moves: &[Move], open: &[&[u32]]| drawn(places, moves, open, &[]);
+    let star = [(0, 0, 1), (0, 1, 2), (0, 2, 3), (1, 0, 4)];
+    let first = [(0, 0, 3), (0, 1, 1), (1, 0, 2), (2, 0, 3)];
+    let deep = [(0, 0, 1), (1, 0, 2), (2, 0, 3), (0, 1, 4), (4, 0, 5)];
+    let mixed = and(in_a_row(2), &[(0, 1, 2), (1, 0, 2), (1, 1, 3), (2, 0, 1), (2, 1, 0), (3, 0, 0), (3, 1, 4)]);
+    let mixed = and(mixed, &[(4, 0, 1), (4, 1, 3)]);
+    let round: Vec<Move> = (0..6).flat_map(|p| [(p, 0, (p + 1) % 6), (p, 1, (p + 5) % 6)]).collect();
+    let two_ways = and(in_a_row(4), &[(0, 1, 3)]);
+    vec![
+        // Place 3 is node 2, place 2 is node 3.
+        walked("two walks", draw(4, &two_ways, &[&[3]]), &at(2, 0, 4, 4), &[1], (1, &[1])),
+        // Place 3 is node 1, 1 is 2, 2 is 3.
+        walked("two walks, lower action", draw(4, &first, &[&[3]]), &at(1, 0, 4, 4), &[0], (1, &[1])),
+        walked("third at its distance", draw(5, &star, &[&[4], &[3]]), &at(3, 1, 5, 4), &[2], (2, &[1, 2])),
+        walked("two of one ring", draw(3, &star[..2], &[&[1, 2]]), &at(1, 0, 3, 2), &[0], (2, &[1])),
+        // Distances 0, 1, 1, 2, 3. Along: 1 to 2 and back; inward: 2 to 0, 3 to 0, 4 to 1 and 3.
+        walked("three kinds of edges", draw(5, &mixed, &[&[4]]), &at(4, 0, 5, 10), &[0, 1, 1], (1, &[3])),
+        // Places 1, 4, 2, 5, 3 are nodes 1 to 5: in depth the end of 0 0 0 would come before that of 1 0.
+        walked("farther first in depth", draw(6, &deep, &[&[3], &[5]]), &at(4, 1, 6, 5), &[1, 0], (2, &[2, 3])),
+        // Places 1, 5, 2, 4, 3 are nodes 1 to 5.
+        walked("round a ring", draw(6, &round, &[&[3], &[4]]), &at(4, 1, 6, 12), &[1, 1], (2, &[2, 3])),
+        walked("arms of 2 and 5", arms(2, 5), &at(4, 1, 8, 7), &[1, 0], (2, &[2, 5])),
+        walked("arms of 4 and 4", arms(4, 4), &at(7, 0, 9, 8), &[0; 4], (2, &[4])),
+    ]
+}
+
+/// Findings at several distances, by combinations.
+fn far_walks() -> Vec<Walked> {
+    let draw = |places: u32, moves: &[Move], open: &[&[u32]]| drawn(places, moves, open, &[]);
+    let (three, five, seven) = (in_a_row(3), in_a_row(5), in_a_row(7));
+    let mingled = [(0, 0, 3), (3, 0, 1), (1, 0, 4), (4, 0, 2)];
+    let beside = and(in_a_row(3), &[(3, 0, 3)]);
+    let last_first: [&[u32]; 5] = [&[6], &[5], &[4], &[3], &[2]];
+    let last_three: [&[u32]; 3] = [&[2], &[4], &[1]];
+    vec![
+        walked("nearer of two", draw(5, &five, &[&[4], &[2]]), &at(2, 1, 5, 4), &[0, 0], (2, &[2, 4])),
+        walked("node 0 and all others", draw(3, &three, &[&[1, 2], &[0]]), &at(0, 1, 3, 2), &[], (3, &[0, 1, 2])),
+        // Places 3, 1, 4, 2 are nodes 1 to 4.
+        walked("mingled places", draw(5, &mingled, &last_three), &at(2, 2, 5, 4), &[0, 0], (3, &[2, 3, 4])),
+        walked("five distances", draw(7, &seven, &last_first), &at(2, 4, 7, 6), &[0, 0], (5, &[2, 3, 4, 5, 6])),
+        // Place 3 is no node.
+        walked("one that is not reached", draw(4, &beside, &[&[3], &[2]]), &at(2, 1, 3, 2), &[0, 0], (1, &[2])),
+    ]
+}
+
+/// Ends that are not shown, and combinations, at several distances.
+fn run_off_walks() -> Vec<Walked> {
+    let (three, four) = (in_a_row(3), in_a_row(4));
+    let fork = [(0, 0, 1), (0, 1, 2), (1, 0, 1)];
+    let loops = [(0, 0, 1), (1, 0, 2), (1, 1, 1), (2, 0, 2)];
+    let off = |node: u32, action: u32, nodes: u32, edges: u32| {
+        format!("RUNOFF node {node} action {action} variable 0 high nodes {nodes} edges {edges}")
+    };
+    let at_0 = drawn(3, &three, &[&[1], &[2]], &[(0, 0)]);
+    let (at_1, at_2) = (drawn(4, &four, &[&[3]], &[(1, 0)]), drawn(4, &four, &[&[1]], &[(2, 0)]));
+    let by_two = drawn(3, &loops, &[], &[(2, 0), (1, 1)]);
+    vec![
+        walked("run-off at 0, combinations", at_0, &off(0, 0, 3, 2), &[], (3, &[0, 1, 2])),
+        walked("run-off at 1, combination at 3", at_1, &off(1, 0, 4, 3), &[0], (2, &[1, 3])),
+        walked("combination at 1, run-off at 2", at_2, &at(1, 0, 4, 3), &[0], (2, &[1, 2])),
+        walked("both at one distance", drawn(3, &fork, &[&[2]], &[(1, 0)]), &off(1, 0, 3, 3), &[0], (2, &[1])),
+        walked("lower action farther", by_two, &off(1, 1, 3, 4), &[0], (2, &[1, 2])),
+    ]
+}
+
+/// A counter with findings at these two distances, of which the first is not above the second, which is below
+/// 512. The farther one is that of combination 0. The verdict's node is the nearer number, and the path has
+/// as many steps, all of action 0.
+pub fn two_findings(near: u32, far: u32) -> (Text, Vec<u32>) {
+    let bits = (32 - far.leading_zeros()).max(1);
+    let only = |number: u32| (((1 << bits) - 1) & !number, number);
+    counter(bits, &[only(far), only(near)])
+}
+
+/// A counter whose last number is forbidden; action 1 leads from the number `from` to the number `to`, and
+/// cannot happen elsewhere. Where `to` is above `from` + 1, the path is `from` times 0, 1, and 0 from `to` to
+/// the last; else it is 0 only.
+pub fn shortcut(bits: u32, from: u32, to: u32) -> (Text, Vec<u32>) {
+    let (mut t, mut l) = counter(bits, &[(0, (1 << bits) - 1)]);
+    t.actions.push(t.actions[0].clone());
+    l.extend(t.ends(1));
+    for j in 0..bits {
+        let (here, there) = (from >> j & 1, to >> j & 1);
+        l.extend(t.forced(1, 2 - there, j, 0, 0));
+        l.extend(t.forced(1, 0, 0, here << j, (1 - here) << j));
+    }
+    (t, l)
+}
+
+/// Chains, up to the longest.
+fn long_walks() -> Vec<Walked> {
+    let leap = |before: usize, behind: usize| [vec![0; before], vec![1], vec![0; behind]].concat();
+    vec![
+        // 0 to 3, 4 and 14, 5 and 15 in this order.
+        walked("shortcut 3 to 14", shortcut(4, 3, 14), &at(7, 0, 16, 17), &leap(3, 1), (1, &[5])),
+        walked("shortcut back", shortcut(4, 9, 2), &at(15, 0, 16, 17), &[0; 15], (1, &[15])),
+        walked("shortcut of one step", shortcut(4, 6, 7), &at(15, 0, 16, 17), &[0; 15], (1, &[15])),
+        // 101 numbers up to 100, then two by two: 101 and 500 are nodes 101 and 102, 112 and 511 are 123 and 124.
+        walked("shortcut 100 to 500", shortcut(9, 100, 500), &at(124, 0, 512, 513), &leap(100, 11), (1, &[112])),
+        walked("3 and 9 steps", two_findings(3, 9), &at(3, 1, 16, 16), &[0; 3], (2, &[3, 9])),
+        walked("0 and 511 steps", two_findings(0, 511), &at(0, 1, 512, 512), &[], (2, &[0, 511])),
+        walked("510 and 511 steps", two_findings(510, 511), &at(510, 1, 512, 512), &[0; 510], (2, &[510, 511])),
+    ]
+}
+
+/// Shows of other requests, with findings at several distances or at the end of a long way.
+fn known_walks() -> Vec<Walked> {
+    let (mut lost, lost_lemmas) = eight(0);
+    lost.bad = vec![(0, 0x07), (0, 0x18)];
+    let lost = (lost, lost_lemmas);
+    let (row, list) = cue_row();
+    let fewer = leave_out(&list, &[lemma_word(1, 3, 1), lemma_word(3, 3, 0)]);
+    let home = split_lemmas(&needed(&house().words(), &house_lemmas().concat()));
+    let high = leave_out(&home, &[lemma_word(2, 4, 0)]);
+    let cues = "RUNOFF node 1 action 1 variable 1 low nodes 5 edges 5";
+    let level = "RUNOFF node 0 action 2 variable 0 high nodes 3 edges 10";
+    let (all, last) = (all_at_once(&[(0, 0)]), last_node(&[(0, 0x1FF)]));
+    let in_order = [0, 1, 2, 3, 4, 5, 6, 7, 8];
+    vec![
+        // One lost: nodes 1 to 8; two: 0 and another 9 to 15, 1 and another 16 to 21, 2 and another 22 to 26,
+        // then 3 and 4. That three are lost holds in 32 sets, that two are in 64, of 2 to 8.
+        walked("three lost, two lost", lost, &at(27, 1, 256, 2048), &[3, 4], (96, &[2, 3, 4, 5, 6, 7, 8])),
+        // Cue 1 happens at node 1 only, cue 3 at node 3 only.
+        walked("cues, two ends not shown", (row, fewer), cues, &[0], (2, &[1, 3])),
+        walked("house, level high by 2 not shown", (house(), high), level, &[], (3, &[0, 1])),
+        walked("rings, two ways", two_ways(), &at(3, 0, 4, 16), &[3, 2], (1, &[2])),
+        walked("rings, all at once", all, &at(0, 0, 5, 20), &[], (5, &[0, 1, 2, 3])),
+        walked("last node", last, &at(511, 0, 512, 8192), &in_order, (2, &[9])),
+        walked("chain beside a node", chain_beside(), &at(511, 0, 512, 1024), &[15; 510], (1, &[510])),
+    ]
+}
+
+/// A drawing by chance: half of the moves lead to the next place, a few are left out, and few places have a
+/// finding.
+pub fn spread(seed: u64) -> (Text, Vec<u32>) {
+    let mut dice = Dice::new(seed + 17_000);
+    let (places, actions) = (4 + dice.below(11), 1 + dice.below(4));
+    let mut moves: Vec<Move> = Vec::new();
+    for (place, action) in (0..places).flat_map(|place| (0..actions).map(move |action| (place, action))) {
+        match dice.below(8) {
+            0 => {}
+            1..=4 => moves.push((place, action, (place + 1) % places)),
+            _ => moves.push((place, action, dice.below(places))),
+        }
+    }
+    let sets: Vec<Vec<u32>> = (0..3).map(|_| (1..places).filter(|_| dice.below(6) == 0).collect()).collect();
+    let open: Vec<&[u32]> = sets.iter().map(|set| &set[..]).collect();
+    let off: Vec<(u32, u32)> = moves.iter().filter(|_| dice.below(20) == 0).map(|m| (m.0, m.1)).collect();
+    drawn(places, &moves, &open, &off)
+}
+
+/// The same with some of its lemmas left out, not the start's: a move that is not shown leads to the node
+/// without literals, where all combinations are open.
+pub fn partial(seed: u64) -> (Text, Vec<u32>) {
+    let (t, l) = spread(seed);
+    let mut dice = Dice::new(seed + 19_000);
+    let list = split_lemmas(&l);
+    let kept = list[1..].iter().filter(|_| dice.below(15) > 0);
+    let l = list[0].iter().chain(kept.flatten()).copied().collect();
+    (t, l)
 }
