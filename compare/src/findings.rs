@@ -16,10 +16,11 @@ const MUCH_MORE: usize = 4_096;
 /// The longest list lent.
 pub const LONGEST: usize = MOST_FINDINGS + 4 * MUCH_MORE;
 
-/// What Judge answered with a path list that is long enough, and left in the library's graph list, with its margins.
+/// What Judge answered with a path list that is long enough, and left in the library's graph list, with its margins, and path list.
 pub struct Before {
     answer: BnvJudge,
     left: Vec<u32>,
+    path: Vec<u32>,
     offset: usize,
 }
 
@@ -146,7 +147,7 @@ fn next_length(dice: &Dice, due: usize, may_be_short: bool) -> usize {
 impl Compare {
     /// After a call of Judge whose path list was long enough.
     pub fn before(&mut self, answer: &BnvJudge, offset: usize) -> Before {
-        Before { answer: *answer, left: self.take_graph(), offset }
+        Before { answer: *answer, left: self.take_graph(), path: self.library_path().to_vec(), offset }
     }
 
     /// The findings call with a graph list lent as to Judge, and a findings list of this length; held to what Judge did.
@@ -209,6 +210,7 @@ impl Compare {
         let graph = Graph { words: &before.left[MARGIN..], nodes, actions };
         let findings: Vec<Finding> = self.sheet.iter().filter_map(|w| Finding::of(*w)).collect();
         fits(&program, &graph, &findings).map_err(|fault| falsehood(input, &before.answer, &fault))?;
+        self.walks(input, &before.answer, &graph, &before.path)?;
         self.note_sheet(&findings, nodes);
         if passed_over(&program, &input.lemmas, &graph, &findings) {
             self.counts.note("findings, no successor passed over");

@@ -21,6 +21,7 @@ mod sheets;
 mod states;
 mod sweep;
 mod touch;
+mod walks;
 mod wide;
 
 use calls::{falsehood, Compare, Difference};

@@ -21,7 +21,7 @@ macro_rules! stored {
 const SHOWS: &[(&str, &[u8])] = stored![
     "bakery", "bakery_kept", "blackout", "blackout_unshown", "bump", "chase", "chase_unshown", "counter", "cut_byte",
     "cut_lemma", "cut_logic", "difference", "empty", "fade", "house", "house_kept", "incident", "incident_mended", "master",
-    "rig8", "rig8_kept"
+    "rig8", "rig8_kept", "shortcut"
 ];
 
 /// The whole words of a file: logic, and lemmas behind the first END.

@@ -8,6 +8,7 @@ use crate::counts::DUE;
 use crate::generate::Input;
 use crate::keeping::NAMES;
 use crate::rings::{OLD_ROOM, NAMES as RINGS};
+use crate::walks::NAMES as WALKS;
 use crate::touch::Graph;
 use bulanevior::raw::BnvJudge;
 use independent::program::Literals;
@@ -179,8 +180,9 @@ pub fn sweep(compare: &mut Compare) -> Result<u64, Difference> {
     sweep.kept_by_variables()?;
     sweep.sheets()?;
     sweep.rings()?;
+    sweep.walks()?;
     let more = DUE.iter().copied().filter(|name| name.starts_with("findings") || name.starts_with("rack "));
-    match NAMES.into_iter().chain(RINGS).chain(more).find(|name| sweep.compare.counts.of(name) == 0) {
+    match NAMES.into_iter().chain(RINGS).chain(WALKS).chain(more).find(|name| sweep.compare.counts.of(name) == 0) {
         Some(name) => Err(format!("the sweeps never had: {name}")),
         None => Ok(sweep.inputs),
     }
