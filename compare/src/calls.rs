@@ -24,6 +24,8 @@ pub struct Compare {
     pub safe_by_kept: bool,
     /// The findings last listed; none if the last input of `all` was refused.
     pub sheet: Vec<u32>,
+    /// The steps of the path that came with them.
+    pub steps: usize,
     pattern: Vec<u32>,
     /// Lent lists with their margins: library, independent.
     graphs: [Vec<u32>; 2],
@@ -76,6 +78,7 @@ impl Compare {
             calls: 0,
             safe_by_kept: false,
             sheet: Vec::new(),
+            steps: 0,
             pattern: (0..findings::LONGEST + 2 * MARGIN + 1024).map(|_| dice.next() as u32).collect(),
             graphs: Default::default(),
             paths: Default::default(),

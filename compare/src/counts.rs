@@ -58,6 +58,7 @@ pub const DUE: &[&str] = &[
     "findings list of length 0", "findings list exactly enough", "findings list one short",
     "findings list longer, rest zeroed", "findings list much longer",
     "all states walked, a fault on the sheet",
+    "all states walked, a path with steps", "all states walked, a fault as near as the path",
 ];
 
 impl Counts {

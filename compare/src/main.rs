@@ -46,13 +46,17 @@ fn walk(compare: &mut Compare, input: &Input, judged: &BnvJudge, most: usize, as
             accepted.push(lemma);
         }
     }
-    let walked = states::walk(&program, states, &accepted, &states::Sheet::of(&compare.sheet))
+    let walked = states::walk(&program, states, &accepted, &states::Sheet::of(&compare.sheet), compare.steps)
         .map_err(|fault| falsehood(input, judged, &fault))?;
     let counts = &mut compare.counts;
     counts.note("all states walked");
     counts.add("accepted lemma, all states", walked.lemmas as u64);
     if walked.faults > 0 {
         counts.note("all states walked, a fault on the sheet");
+    }
+    if compare.steps > 0 {
+        counts.note("all states walked, a path with steps");
+        counts.add("all states walked, a fault as near as the path", u64::from(walked.nearest == Some(compare.steps)));
     }
     if judged.verdict == BNV_SAFE {
         counts.note("all states walked, safe");

@@ -21,6 +21,8 @@ pub struct Walk {
     pub reachable: usize,
     /// Reachable states with a fault, each on the sheet.
     pub faults: usize,
+    /// The fewest moves before one.
+    pub nearest: Option<usize>,
     /// Accepted lemmas, each held to all states.
     pub lemmas: usize,
 }
@@ -144,16 +146,16 @@ impl Sheet {
     }
 }
 
-/// Every forbidden state that a run meets and every way in which one runs off is on the sheet: hands back how many states
-/// runs reach, and how many of them have such a fault.
-fn reached(program: &Program, all: &States, sheet: &Sheet) -> Result<(usize, usize), String> {
+/// Every forbidden state that a run meets and every way in which one runs off is on the sheet, and not before the run has made as many moves
+/// as the path has steps: hands back how many states runs reach, how many of them have such a fault, and the fewest moves before one.
+fn reached(program: &Program, all: &States, sheet: &Sheet, steps: usize) -> Result<(usize, usize, Option<usize>), String> {
     let actions = program.actions.len();
-    let mut faults = 0;
+    let (mut faults, mut nearest) = (0, None);
     let mut seen = all.starts.clone();
-    let mut list: Vec<usize> = (0..seen.len()).filter(|s| seen[*s]).collect();
+    let mut list: Vec<(usize, usize)> = (0..seen.len()).filter(|s| seen[*s]).map(|s| (s, 0)).collect();
     let mut at = 0;
     while at < list.len() {
-        let s = list[at];
+        let (s, moves) = list[at];
         at += 1;
         let mut fault = false;
         for (b, _) in program.forbidden.iter().enumerate().filter(|(_, c)| meets(c, all.predicates[s])) {
@@ -171,23 +173,27 @@ fn reached(program: &Program, all: &States, sheet: &Sheet) -> Result<(usize, usi
                 fault = true;
             } else if !seen[it.next] {
                 seen[it.next] = true;
-                list.push(it.next);
+                list.push((it.next, moves + 1));
             }
         }
+        if fault && moves < steps {
+            return Err(format!("the path has {steps} steps, but the state {s} is at fault after {moves} moves"));
+        }
         faults += usize::from(fault);
+        nearest = nearest.or(fault.then_some(moves));
     }
-    Ok((at, faults))
+    Ok((at, faults, nearest))
 }
 
 /// Holds each accepted lemma to all states of the ranges, and the findings to all runs. `accepted` are the lemmas that
-/// the library accepts; `sheet` is what it finds.
-pub fn walk(program: &Program, states: usize, accepted: &[&Lemma], sheet: &Sheet) -> Result<Walk, String> {
+/// the library accepts; `sheet` is what it finds, and its path has so many steps.
+pub fn walk(program: &Program, states: usize, accepted: &[&Lemma], sheet: &Sheet, steps: usize) -> Result<Walk, String> {
     let all = all(program, states);
     for (number, lemma) in accepted.iter().enumerate() {
         if let Some(s) = refuted(&all, program.actions.len(), lemma) {
             return Err(format!("accepted lemma {number} of the accepted ones is false at state {s}: {lemma:?}"));
         }
     }
-    let (reachable, faults) = reached(program, &all, sheet)?;
-    Ok(Walk { reachable, faults, lemmas: accepted.len() })
+    let (reachable, faults, nearest) = reached(program, &all, sheet, steps)?;
+    Ok(Walk { reachable, faults, nearest, lemmas: accepted.len() })
 }

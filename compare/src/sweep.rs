@@ -1,15 +1,15 @@
 //! Full sweeps over a full-sized program and a full-sized lemma list: every cut, every kind in every place,
 //! every single unnamed bit, every field at its ends and one past them; lengths of all lent lists. And request 1's clause:
 //! small logics, and every set of variables against every other. Request 2's are in sheets.rs, request 4's in racks.rs, request 6's in
-//! rings.rs.
+//! rings.rs, request 7's in walks.rs.
 
 use crate::calls::{falsehood, Compare, Difference};
 use crate::counts::DUE;
 use crate::generate::Input;
 use crate::keeping::NAMES;
 use crate::rings::{OLD_ROOM, NAMES as RINGS};
-use crate::walks::NAMES as WALKS;
 use crate::touch::Graph;
+use crate::walks::NAMES as WALKS;
 use bulanevior::raw::BnvJudge;
 use independent::program::Literals;
 use independent::shows::*;

@@ -85,9 +85,11 @@ fn seen(judged: &BnvJudge, graph: &Graph, findings: &[Finding], tried: bool) -> 
 impl Compare {
     /// Looks at what Judge left in the library's lists, beside the findings that were listed.
     pub fn walks(&mut self, input: &Input, judged: &BnvJudge, graph: &Graph, path: &[u32]) -> Result<(), Difference> {
+        self.steps = 0;
         if judged.verdict == BNV_SAFE {
             return Ok(());
         }
+        self.steps = path_actions(path).len();
         let findings: Vec<Finding> = self.sheet.iter().filter_map(|word| Finding::of(*word)).collect();
         let nodes = finding_nodes(&self.sheet, self.sheet.len());
         let tried = held(judged, graph, path, &nodes).map_err(|fault| falsehood(input, judged, &fault))?;

@@ -41,7 +41,7 @@ module _ (p : Program) (ls : List Lemma) where
       go Root e c = absurd (omega (arith, c .0))
       go (From i j) e c = record { parent = i; action = j; is = e; first = c }
 
-  root-of : (g : Graph) → Faithful p ls g → 0 < count g → (origin g 0 ≡ Root) × (start p ls ≡ And (literalsAt g 0))
+  pub root-of : (g : Graph) → Faithful p ls g → 0 < count g → (origin g 0 ≡ Root) × (start p ls ≡ And (literalsAt g 0))
   root-of g f h = go (origin g 0) refl (f .origins 0 h)
     where
       go : (o : Origin) → origin g 0 ≡ o → FoundFirst p ls g 0 o → (origin g 0 ≡ Root) × (start p ls ≡ And (literalsAt g 0))

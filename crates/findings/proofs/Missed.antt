@@ -100,7 +100,7 @@ module _ (p : Program) (ok : WellFormed p) (ls : List Lemma) (good : Each (Lemma
       after-long : length after ≡ length (p .ranges)
       after-long = values-length (newValue (actionOf p j .sets) s) 0 (length s) ∙ h .inside .long
 
-      follows : Next p g after (successor p ls j here)
+      follows : Next p g after (successor p ls j here) (edge (length (p .actions)) g (h .node) j)
       follows =
           next p g after (successor p ls j here) (edge (length (p .actions)) g (h .node) j) (successor-true p ok s (h .inside) j may here (h .described) ls good)
           (faithful .edges (h .node) j (h .stored) l)

@@ -45,6 +45,7 @@ pub record Known (ws lemmas gl : List ℕ) (p : Program) (ls : List Lemma) (g : 
   pub program : read ws ≡ got p rest index
   pub list : readLemmas p lemmas ≡ got ls more at
   pub good : WellFormed p
+  pub lemmas-good : Each (LemmaOk p) ls
   pub is : graph p ls ≡ Done g
   pub drawn : Drawn p ls g (count g) (links g) gl gl′
   pub safe-if : findings p ls g ≡ [] → SafeOf (read ws)
@@ -83,6 +84,7 @@ module _ (ws lemmas gl : List ℕ) where
             program = q;
             list = q′;
             good = ok;
+            lemmas-good = each;
             is = e;
             drawn = record { faithful = d .0; enough = d .1; few = graph-few p ls g e; nodes-are = refl; edges-are = refl; records = refl };
             safe-if = λ none. rw q (safe p ok ls each g (d .0) none);

@@ -19,19 +19,21 @@ use Rattle.programs.specs.Calls.{read}
 use Rattle.lemmas.specs.Lemmas.{Lemma}
 use Rattle.search.specs.Search.{Answer, To, None, Graph, count, distance, edge}
 use Rattle.search.specs.Paths.{Walk, stand, go}
+use Rattle.search.proofs.Count.{lt-or-le}
 use Rattle.records.specs.Records.{mostNodes, edgeWord, edgePlace, recordsOf}
 use Rattle.records.specs.Naming.{names}
 use Rattle.records.proofs.Listed.{edge-at}
 use Rattle.abstraction.specs.Faithful.{Faithful}
 use Rattle.abstraction.proofs.Unique.{distance-path}
 use Rattle.abstraction.proofs.Shortest.{rising, edge-near, walk-far}
-use Rattle.verdict.specs.Verdicts.{Finding, Forbid, RunOff, findings, nodeOf, pathList, stepsIn, stepsTo}
+use Rattle.verdict.specs.Verdicts.{Finding, Forbid, RunOff, findingsAt, findings, nodeOf, pathList, stepsTo}
 use Rattle.sheet.proofs.Dues.{findings-are}
+use Rattle.safety.proofs.Safety.{safe-before}
 use Rattle.survey.specs.Surveys.{Survey, stops, draws, surveyProgram}
 use Rattle.judge.specs.Calls.{Judgement, verdict, pathTo, judgeSurvey, judge}
 use Rattle.judge.specs.Worth.{Drawn}
 use Rattle.judge.specs.Shortest.{walkEnd, Least, Shortest, ShortestOf}
-use Rattle.judge.proofs.Walks.{findings-within, findings-lowest}
+use Rattle.judge.proofs.Walks.{findings-within, findings-lowest, none-nearer}
 use Rattle.judge.proofs.Told.{steps-told}
 use Rattle.judge.proofs.Promised.{Known, of-read, Worth, survey-worth, of-judge}
 
@@ -92,6 +94,13 @@ module _ (p : Program) (ls : List Lemma) (g : Graph) (f : Faithful p ls g) where
       let here : nodeOf y < count g = each-in (λ h. nodeOf h < count g) (x ∷ fs) within y found in
       omega (arith, distance-path p ls g f mostNodes (nodeOf x) (omega arith) (within .0), rising p ls g f (nodeOf x) (nodeOf y) first here, walk-far p ls g f (omega arith) w)
 
+  -- so nodes nearer than it have no finding
+  clear : (x : Finding) (fs : List Finding) → findings p ls g ≡ x ∷ fs → count g ≤ mostNodes → (k : ℕ) → k < count g → distance g k < length (stepsTo g (nodeOf x)) → findingsAt p ls g k ≡ []
+  clear x fs e few k h near =
+      let within : Each (λ h. nodeOf h < count g) (x ∷ fs) = rw e at (findings-within p ls g) in
+      let far = distance-path p ls g f mostNodes (nodeOf x) (omega arith) (within .0) in
+      none-nearer p ls g x fs e k (⊎-elim (λ lt. lt) (λ le. absurd (omega (arith, far, near, rising p ls g f (nodeOf x) k le h))) (lt-or-le k (nodeOf x)))
+
   walks-in-words : {nodes edges : ℕ} {before after : List ℕ} → Drawn p ls g nodes edges before after → (js : List ℕ) (k : ℕ) → 0 < count g
       → (walkEnd actions after 0 js ≡ To k) ↔ Walk actions g 0 js k
   walks-in-words {after = after} d js k h = (to-walk (d .few) after _ (d .records) js 0 k h, from-walk (d .few) after _ (d .records) h)
@@ -113,8 +122,13 @@ module _ (ws lemmas gl pl : List ℕ) where
         let f = k .drawn .faithful in
         let few = k .drawn .few in
         let within : Each (λ h. nodeOf h < count g) (x ∷ fs) = rw e at (findings-within p ls g) in
-        let first : Least p ls g (length (stepsIn (pathList (stepsTo g (nodeOf x)) pl))) = rw (steps-told p (k .good) ls g f few (nodeOf x) (within .0) pl) (least p ls g f x fs e few) in
-        (g, f, first, λ y due js w. first y due js (walks-in-words p ls g f (k .drawn) js (nodeOf y) (omega (arith, within .0)) .0 w))
+        rw (steps-told p (k .good) ls g f few (nodeOf x) (within .0) pl) (
+          g,
+          f,
+          least p ls g f x fs e few,
+          λ y due js w. least p ls g f x fs e few y due js (walks-in-words p ls g f (k .drawn) js (nodeOf y) (omega (arith, within .0)) .0 w),
+          safe-before p (k .good) ls (k .lemmas-good) g f (length (stepsTo g (nodeOf x))) (clear p ls g f x fs e few),
+        )
 
     verdict-short : (fs : List Finding) → findings p ls g ≡ fs → ShortestOf ws lemmas (verdict g fs) gl′ (pathList (pathTo g fs) pl)
     verdict-short [] e = tt

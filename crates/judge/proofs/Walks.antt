@@ -1,7 +1,8 @@
--- Every finding is at a node of the graph, and the path to a node is a walk from node 0 to it.
-use mathlib.Core.Path.{_≡_, refl}
+-- Every finding is at a node of the graph, the first at the lowest of these nodes, and the path to a node is a walk from node 0 to it.
+use mathlib.Core.Path.{_≡_, refl, sym, ap}
+use mathlib.Core.Logic.{⊎-elim}
 use mathlib.Core.Bool.{Bool, true, false, cond}
-use mathlib.Core.List.{List, [], _∷_, _++_}
+use mathlib.Core.List.{List, [], _∷_, _++_, cons≢nil}
 use Prim.Native.Nat.{ℕ, zero, suc, _+_, _<_, _≤_}
 use native.Mathlib.Omega.{arith}
 use lib.ListN.{length}
@@ -13,6 +14,7 @@ use Rattle.words.specs.Words.{payload}
 use Rattle.words.specs.LiteralSets.{Literal, literalsIn}
 use Rattle.search.specs.Search.{Answer, Graph, Done, count}
 use Rattle.search.specs.Paths.{Walk}
+use Rattle.search.proofs.Count.{lt-or-le}
 use Rattle.search.proofs.Theorem.{Whole, whole}
 use Rattle.search.proofs.Paths.{path-in-graph}
 use Rattle.records.specs.Records.{mostNodes}
@@ -106,6 +108,23 @@ module _ (p : Program) (ls : List Lemma) (g : Graph) where
 
   pub findings-lowest : Lowest (findings p ls g)
   findings-lowest = lowest-from 0 (count g)
+
+  -- nodes before it have none
+  none-before : (i n : ℕ) (x : Finding) (fs : List Finding) → findingsFrom p ls g i n ≡ x ∷ fs → (k : ℕ) → i ≤ k → k < nodeOf x → findingsAt p ls g k ≡ []
+  unfolding findingsFrom
+  none-before i zero x fs e k le lt = absurd (cons≢nil (sym e))
+  none-before i (suc n) x fs e k le lt = go (findingsAt p ls g i) refl e (none-before (suc i) n x fs)
+    where
+      go : (ys : List Finding) → findingsAt p ls g i ≡ ys → ys ++ findingsFrom p ls g (suc i) n ≡ x ∷ fs
+          → (findingsFrom p ls g (suc i) n ≡ x ∷ fs → (k : ℕ) → suc i ≤ k → k < nodeOf x → findingsAt p ls g k ≡ []) → findingsAt p ls g k ≡ []
+      go [] is q on = ⊎-elim (λ l. on q k l lt) (λ l. let same : k ≡ i = omega (arith, l, le) in rw same is) (lt-or-le i k)
+      go (y ∷ ys) is q on =
+          let first : nodeOf y ≡ i = (rw is at (findings-at i)) .0 in
+          let same : y ≡ x = cc in
+          absurd (omega (arith, first, ap nodeOf same, le, lt))
+
+  pub none-nearer : (x : Finding) (fs : List Finding) → findings p ls g ≡ x ∷ fs → (k : ℕ) → k < nodeOf x → findingsAt p ls g k ≡ []
+  none-nearer x fs e k lt = none-before 0 (count g) x fs e k (omega arith) lt
 
   -- ---- the path to a node
   module _ (e : graph p ls ≡ Done g) where

@@ -4,17 +4,21 @@
 --              action is not one of a
 -- Least      — no walk in a graph from node 0 to a node with a finding, one of those that request 2 lists, has fewer than n steps
 -- Unbeaten   — of a graph list and a path list: no such walk along the EDGE words has fewer steps than there are STEP words
--- Shortest   — both, of the graph that formula (3) describes
+-- SafeBefore — every run from a start state that makes fewer than n moves is safe
+-- Shortest   — all three, of the graph that formula (3) describes and of as many steps as there are STEP words
 -- ShortestOf — of an answer: where it is a finding, with both lists at exit
 use mathlib.Core.Path.{_≡_}
 use mathlib.Core.Bool.{cond, _&&_}
 use mathlib.Core.List.{List, [], _∷_}
-use Prim.Native.Nat.{ℕ, _≤_}
+use Prim.Native.Nat.{ℕ, _≤_, _<_}
 use lib.Dec.{ltb}
+use lib.IntN.{ℤ}
 use lib.ListN.{length, getD}
 use Rattle.words.specs.Words.{payload}
 use Rattle.grammar.specs.Programs.{Program}
+use Rattle.grammar.specs.WellFormed.{Each}
 use Rattle.programs.specs.Calls.{read}
+use Rattle.runs.specs.Runs.{Start, run, SafeRun}
 use Rattle.lemmas.specs.Lemmas.{Lemma}
 use Rattle.search.specs.Search.{Answer, To, None, Graph}
 use Rattle.search.specs.Paths.{Walk}
@@ -39,8 +43,13 @@ abbrev pub Unbeaten : Program → List Lemma → Graph → List ℕ → List ℕ
 Unbeaten p ls g gl pl =
     (f : Finding) → Due p ls g f → (js : List ℕ) → walkEnd (length (p .actions)) gl 0 js ≡ To (nodeOf f) → length (stepsIn pl) ≤ length js
 
+-- so in the show itself nothing goes wrong before n actions have been taken
+abbrev pub SafeBefore : Program → ℕ → Type 0
+SafeBefore p n = (s : List ℤ) → Start p s → (ks : List ℕ) → Each (λ k. k < length (p .actions)) ks → run p ks s .moves < n → SafeRun p (run p ks s)
+
 abbrev pub Shortest : List ℕ → List ℕ → Program → List Lemma → Type 0
-Shortest gl pl p ls = (g : Graph) × Faithful p ls g × Least p ls g (length (stepsIn pl)) × Unbeaten p ls g gl pl
+Shortest gl pl p ls =
+    (g : Graph) × Faithful p ls g × Least p ls g (length (stepsIn pl)) × Unbeaten p ls g gl pl × SafeBefore p (length (stepsIn pl))
 
 abbrev pub ShortestOf : List ℕ → List ℕ → Judged → List ℕ → List ℕ → Type 0
 ShortestOf ws lemmas (IsSafe n e) gl pl = Unit {0}

@@ -109,7 +109,7 @@ pub distance-words : (p : Program) (ls : List Lemma) (g : Graph) (n e : ℕ) (be
 distance-words = Rattle.judge.proofs.Distances.distance-words
 
 -- ---- request 7: the shortest press list
--- where Judge's answer is a finding, no walk from node 0 to any node with a finding has fewer steps than there are STEP words in the path list, along the EDGE words of the graph list or in the graph; nor than a PATH line, in the show's graph
+-- where Judge's answer is a finding, no walk from node 0 to any node with a finding has fewer steps than there are STEP words in the path list, along the EDGE words of the graph list or in the graph, and every run with fewer moves is safe; so it is with a PATH line
 pub shortest : ((ws lemmas gl pl : List ℕ) → let j = judge ws lemmas gl pl in ShortestOf ws lemmas (j .answer) (j .graph) (j .path))
     × ((b js : List ℕ) → Ends (pathLine js) (linesOf b) → ShortestShow b (length js))
 shortest = (Rattle.judge.proofs.Shortest.judge-shortest, Rattle.report.proofs.PathLine.path-line)

@@ -19,7 +19,7 @@ use Rattle.abstraction.specs.Faithful.{Faithful}
 use Rattle.verdict.specs.Verdicts.{pathWords, stepsIn}
 use Rattle.judge.specs.Calls.{judge}
 use Rattle.judge.specs.Worth.{OfList, OfRead}
-use Rattle.judge.specs.Shortest.{Least, Shortest, ShortestOf}
+use Rattle.judge.specs.Shortest.{Least, SafeBefore, Shortest, ShortestOf}
 use Rattle.judge.specs.declared.Judged.{Judged}
 use Rattle.judge.specs.declared.Judged.the-variants.{MayForbid, MayRunOff, Refused}
 use Rattle.judge.specs.declared.Judged.the-variants.{Safe as IsSafe}
@@ -95,12 +95,12 @@ module _ (P Q : Program → List Lemma → Type 0) (on : (p : Program) (ls : Lis
 
 module _ (ws lemmas gl pl js : List ℕ) where
   abbrev LeastIn : ℕ → Program → List Lemma → Type 0
-  LeastIn n p ls = (g : Graph) × Faithful p ls g × Least p ls g n
+  LeastIn n p ls = (g : Graph) × Faithful p ls g × Least p ls g n × SafeBefore p n
 
   ended : (front : List ℕ) → OfRead (Shortest gl pl) (read ws) lemmas → Ends (pathLine js) (front ++ pathLine (stepsIn pl)) → OfRead (LeastIn (length js)) (read ws) lemmas
   ended front s h =
       let same : length (stepsIn pl) ≡ length js = omega (arith, tally-ends js (front ++ pathLine (stepsIn pl)) h, tally-append 0 front (pathLine (stepsIn pl)), tally-path (tally 0 front) (stepsIn pl)) in
-      rw (← same) (of-words (Shortest gl pl) (LeastIn (length (stepsIn pl))) (λ p ls q. (q .0, q .1, q .2)) (read ws) lemmas s)
+      rw (← same) (of-words (Shortest gl pl) (LeastIn (length (stepsIn pl))) (λ p ls q. (q .0, q .1, q .2, q .4)) (read ws) lemmas s)
 
   answer-shortest : (a : Judged) → ShortestOf ws lemmas a gl pl → Ends (pathLine js) (answerLines a pl) → OfRead (LeastIn (length js)) (read ws) lemmas
   unfolding answerLines tally more

@@ -7,7 +7,8 @@
 -- linesOf      — the lines of any bytes
 -- written      — what goes to a list of bytes: the lines; nothing if it has under 4,096
 -- Begins, Ends — a list begins, ends with another
--- ShortestShow — request 7: the bytes hold a program and lemmas, and no walk in their graph from node 0 to a node with a finding has fewer than n steps
+-- ShortestShow — request 7: the bytes hold a program and lemmas; no walk in their graph from node 0 to a node with a finding has fewer than n steps, and
+--                every run with fewer moves is safe
 use mathlib.Core.Path.{_≡_}
 use mathlib.Core.Bool.{Bool, cond}
 use mathlib.Core.List.{List, [], _∷_, _++_}
@@ -22,7 +23,7 @@ use Rattle.records.specs.Records.{graphWords}
 use Rattle.abstraction.specs.Faithful.{Faithful}
 use Rattle.verdict.specs.Verdicts.{pathWords, stepsIn}
 use Rattle.judge.specs.Worth.{OfRead}
-use Rattle.judge.specs.Shortest.{Least}
+use Rattle.judge.specs.Shortest.{Least, SafeBefore}
 use Rattle.judge.specs.declared.Judged.{Judged}
 use Rattle.judge.specs.declared.Judged.the-variants.{MayForbid, MayRunOff, Refused}
 use Rattle.judge.specs.declared.Judged.the-variants.{Safe as IsSafe}
@@ -88,4 +89,5 @@ abbrev pub Ends : List ℕ → List ℕ → Type 0
 Ends t l = (front : List ℕ) × (l ≡ front ++ t)
 
 abbrev pub ShortestShow : List ℕ → ℕ → Type 0
-ShortestShow b n = OfRead (λ p ls. (g : Graph) × Faithful p ls g × Least p ls g n) (read (logicIn (wordsIn b))) (lemmasIn (wordsIn b))
+ShortestShow b n =
+    OfRead (λ p ls. (g : Graph) × Faithful p ls g × Least p ls g n × SafeBefore p n) (read (logicIn (wordsIn b))) (lemmasIn (wordsIn b))

@@ -1,4 +1,4 @@
--- What a graph without findings has: at each node every forbidden combination is contradicted, and both ends of what an action with a successor sets are shown.
+-- What a node without findings has: every forbidden combination is contradicted there, and both ends of what an action with a successor sets are shown. A graph without any has such nodes only.
 use mathlib.Core.Path.{_≡_, refl}
 use mathlib.Core.Bool.{Bool, true, false, cond}
 use mathlib.Core.List.{List, [], _∷_, _++_, cons≢nil}
@@ -78,9 +78,12 @@ module _ (p : Program) (ls : List Lemma) (g : Graph) where
       rw same (none-split (findingsAt p ls g i) (findingsFrom p ls g (suc i) n) e .0)
   from-none i (suc n) e (suc k) j q l = from-none (suc i) n (none-split (findingsAt p ls g i) (findingsFrom p ls g (suc i) n) e .1) k j (omega arith) (le-of-suc-le-suc l)
 
-  module _ (none : findings p ls g ≡ []) (k : ℕ) (stored : k < count g) where
+  pub none-anywhere : findings p ls g ≡ [] → (k : ℕ) → k < count g → findingsAt p ls g k ≡ []
+  none-anywhere none k stored = from-none 0 (count g) none k k (omega arith) stored
+
+  module _ (k : ℕ) (none : findingsAt p ls g k ≡ []) where
     at-node : (forbids k (literalsAt g k) 0 (p .forbidden) ≡ []) × (runsOff p ls (literalsAt g k) k 0 (p .actions) ≡ [])
-    at-node = none-split (forbids k (literalsAt g k) 0 (p .forbidden)) (runsOff p ls (literalsAt g k) k 0 (p .actions)) (from-none 0 (count g) none k k (omega arith) stored)
+    at-node = none-split (forbids k (literalsAt g k) 0 (p .forbidden)) (runsOff p ls (literalsAt g k) k 0 (p .actions)) none
 
     -- no state that the node describes is forbidden
     pub not-forbidden : (s : List ℤ) → Each (TrueAt p s) (literalsAt g k) → forbidden p s ≡ false
