@@ -45,14 +45,14 @@ static_assert(sizeof(size_t) == 8, "64-bit numbers only");
 _Static_assert(sizeof(size_t) == 8, "64-bit numbers only");
 #endif
 
-#define BNV_VERSION "0.7.0"
+#define BNV_VERSION "0.7.1"
 
 /* ---- Words: the kind in bits 31 to 28, the payload in bits 27 to 0. */
 
 #define BNV_KIND(word) ((uint32_t)(word) >> 28)
 #define BNV_PAYLOAD(word) ((uint32_t)(word) & 0x0FFFFFFFu)
 
-#define BNV_DISTANCE 0u /* a node's distance from node 0: as many actions as the path to it has; zeroed words have this kind too */
+#define BNV_DISTANCE 0u /* a node's distance from node 0: the fewest actions that lead to it; zeroed words have this kind too */
 #define BNV_VAR 1u    /* a variable's range */
 #define BNV_ROW 2u    /* a row's constant */
 #define BNV_TERM 3u   /* a variable's coefficient in a row */
@@ -214,6 +214,9 @@ BnvAsk bnv_ask(const uint32_t *words, size_t words_length, const uint32_t *lemma
  * A verdict fills the first BNV_GRAPH_WORDS words of the graph list with one record for each node, SETS, ORIGIN, DISTANCE and an EDGE
  * for each action, and zeroes after them; and the first BNV_PATH_WORDS words of the path list with the STEP words that lead to the finding's
  * node, and zeroes after them. Refusals in the order 1 graph, 1 path, 2 to 4, 5 and 6, 11, 7.
+ *
+ * The path of a finding can't be beaten: no walk along the EDGE words, from node 0 to any node with a finding, has fewer steps. And whatever
+ * a show with a finding can really do, from any start state nothing goes wrong before as many actions have moved it as there are STEP words.
  */
 
 #define BNV_MAY_FORBID 1u

@@ -375,6 +375,9 @@ pub struct Judgement {
 /// The graph into the first `GRAPH_WORDS` words of one list, the verdict, and the path to its node into the first `PATH_WORDS`
 /// words of the other. The lists need that many words; further ones are left. A predicate whose row has no coefficient on any
 /// variable that an action sets keeps its literal across that action without a lemma.
+///
+/// The path of a finding can't be beaten: no walk in the graph, from node 0 to any node with a finding, has fewer steps; and from any
+/// start state nothing really goes wrong before as many actions have moved the show.
 pub fn judge(
     words: &[u32],
     lemmas: &[u32],
@@ -524,8 +527,8 @@ pub fn origin(graph: &[u32], actions: usize, node: usize) -> Option<(usize, usiz
     (payload(word) != 0x1FFF).then_some((parent as usize, action as usize))
 }
 
-/// How far a node is from node 0, by its DISTANCE word in such a list: as many actions as the path to it has. None where the list
-/// has no such record.
+/// How far a node is from node 0, by its DISTANCE word in such a list: the fewest actions that lead to it. None where the list has no
+/// such record.
 pub fn distance(graph: &[u32], actions: usize, node: usize) -> Option<usize> {
     Some(payload(header(graph, actions, node)?[2]) as usize)
 }
