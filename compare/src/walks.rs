@@ -30,8 +30,8 @@ fn combination(finding: Finding) -> Option<usize> {
     }
 }
 
-/// The path leads to the verdict's node, and nothing shorter to any with a finding. Where there are few lists of actions that are as long
-/// or shorter, all are tried; says whether.
+/// The path leads to the verdict's node, and nothing shorter to any with a finding. Where there are few lists of as many actions, all shorter
+/// ones are tried too, and then those as long up to the first that leads to one; says whether.
 fn held(judged: &BnvJudge, graph: &Graph, path: &[u32], nodes: &[usize]) -> Result<bool, String> {
     let (words, count, actions) = (graph.words, graph.nodes, graph.actions);
     let steps = path_actions(path);

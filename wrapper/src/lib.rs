@@ -377,7 +377,7 @@ pub struct Judgement {
 /// variable that an action sets keeps its literal across that action without a lemma.
 ///
 /// The path of a finding can't be beaten: no walk in the graph, from node 0 to any node with a finding, has fewer steps; and from any
-/// start state nothing really goes wrong before as many actions have moved the show.
+/// start state nothing really goes wrong before as many actions have moved the show as the path has.
 pub fn judge(
     words: &[u32],
     lemmas: &[u32],

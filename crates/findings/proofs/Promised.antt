@@ -26,7 +26,7 @@ use Rattle.judge.specs.Worth.{OfRead, SafeOf}
 use Rattle.judge.specs.Calls.{verdict, judgeSurvey, judge}
 use Rattle.judge.specs.Calls.{keep as keep-judged}
 use Rattle.judge.specs.declared.Judged.the-variants.{Refused as NotJudged}
-use Rattle.judge.proofs.Promised.{Known, Worth, of-read, other, survey-worth}
+use Rattle.judge.proofs.Promised.{Known, Worth, of-read, other, survey-worth, safe-if}
 use Rattle.findings.specs.Calls.{Listing, keep, listAll, listSurvey, listing}
 use Rattle.findings.specs.Worth.{SheetOf, Begins, Agrees}
 use Rattle.findings.specs.declared.Listed.{Listed}
@@ -89,7 +89,7 @@ module _ (ws lemmas gl fl : List ℕ) where
 
   survey-safe : (s : Survey) → Worth ws lemmas gl s → listSurvey s fl .answer ≡ All 0 → SafeOf (read ws)
   survey-safe (stops r gl′) w e = refused-none e
-  survey-safe (draws p ls g gl′) w e = w .safe-if (none-listed (findings p ls g) gl′ e)
+  survey-safe (draws p ls g gl′) w e = safe-if w (none-listed (findings p ls g) gl′ e)
 
   pub listing-safe : listing ws lemmas gl fl .answer ≡ All 0 → SafeOf (read ws)
   listing-safe = go (ltb (length gl) graphWords)

@@ -48,12 +48,15 @@ pub record Known (ws lemmas gl : List ℕ) (p : Program) (ls : List Lemma) (g : 
   pub lemmas-good : Each (LemmaOk p) ls
   pub is : graph p ls ≡ Done g
   pub drawn : Drawn p ls g (count g) (links g) gl gl′
-  pub safe-if : findings p ls g ≡ [] → SafeOf (read ws)
 
 -- a claim about that program and those lemmas is one about the words
 pub of-read : {ws lemmas gl : List ℕ} {p : Program} {ls : List Lemma} {g : Graph} {gl′ : List ℕ} → Known ws lemmas gl p ls g gl′
     → (P : Program → List Lemma → Type 0) → P p ls → OfRead P (read ws) lemmas
 of-read k P h = rw (k .program) (rw (k .list) h)
+
+-- without findings the program is safe
+pub safe-if : {ws lemmas gl : List ℕ} {p : Program} {ls : List Lemma} {g : Graph} {gl′ : List ℕ} → Known ws lemmas gl p ls g gl′ → findings p ls g ≡ [] → SafeOf (read ws)
+safe-if {p = p} {ls = ls} {g = g} k none = rw (k .program) (safe p (k .good) ls (k .lemmas-good) g (k .drawn .faithful) none)
 
 -- a survey stops by one of the base's refusals; 7 says that too many nodes are reachable, the others say nothing here
 abbrev pub Worth : List ℕ → List ℕ → List ℕ → Survey → Type 0
@@ -87,7 +90,6 @@ module _ (ws lemmas gl : List ℕ) where
             lemmas-good = each;
             is = e;
             drawn = record { faithful = d .0; enough = d .1; few = graph-few p ls g e; nodes-are = refl; edges-are = refl; records = refl };
-            safe-if = λ none. rw q (safe p ok ls each g (d .0) none);
           }
       graph-worth Over e = (omega arith, λ same. rw q (rw q′ (rw e at (demand2 p ok ls each))))
 
@@ -159,7 +161,7 @@ no-finding g (RunOff k j v high ∷ fs) h = let z : _≡_ {A = ℕ} 0 1 = cc in 
 module _ (ws lemmas gl pl : List ℕ) {n e : ℕ} where
   survey-safe : (s : Survey) → Worth ws lemmas gl s → judgeSurvey s pl .answer ≡ IsSafe n e → SafeOf (read ws)
   survey-safe (stops r gl′) w h = refused-safe h
-  survey-safe (draws p ls g gl′) w h = w .safe-if (no-finding g (findings p ls g) h)
+  survey-safe (draws p ls g gl′) w h = safe-if w (no-finding g (findings p ls g) h)
 
   pub judge-safe : judge ws lemmas gl pl .answer ≡ IsSafe n e → SafeOf (read ws)
   judge-safe =

@@ -1,12 +1,12 @@
 -- Request 7: no walk from node 0 to a node with a finding has fewer steps than the path to the first finding's node.
---     walks               the walks of a graph are those along the EDGE words of the list that Judge leaves; none is shorter than the distance
+--     walks               the walks of a graph are those along the EDGE words of the list that Judge leaves; a distance is the fewest steps of one
 --     least               none in the graph
 --     judge-shortest      of Judge's answer and lists
 use mathlib.Core.Path.{_≡_, refl, sym, ap, _∙_}
 use mathlib.Core.Logic.{_↔_, ⊎-elim}
 use mathlib.Core.Bool.{Bool, true, false, cond}
 use mathlib.Core.List.{List, [], _∷_, _++_, List·Memᴰ, List·Memᴰ·not-nil, List·Memᴰ·cases-cons}
-use Prim.Native.Nat.{ℕ, _<_, _≤_}
+use Prim.Native.Nat.{ℕ, zero, suc, _<_, _≤_}
 use native.Mathlib.Omega.{arith}
 use borrow.Author.Tests.{lt-ltb, ltb-true, ne-eqb}
 use lib.Dec.{ltb}
@@ -25,16 +25,18 @@ use Rattle.records.specs.Naming.{names}
 use Rattle.records.proofs.Listed.{edge-at}
 use Rattle.abstraction.specs.Faithful.{Faithful}
 use Rattle.abstraction.proofs.Unique.{distance-path}
-use Rattle.abstraction.proofs.Shortest.{rising, edge-near, walk-far}
-use Rattle.verdict.specs.Verdicts.{Finding, Forbid, RunOff, findingsAt, findings, nodeOf, pathList, stepsTo}
+use Rattle.abstraction.proofs.Shortest.{rising, edge-near, walk-far, nearest}
+use Rattle.verdict.specs.Verdicts.{Finding, Forbid, RunOff, findingsAt, findingsFrom, findings, nodeOf, pathList, stepsTo}
+use Rattle.sheet.specs.Sheets.{Due}
+use Rattle.sheet.proofs.Pieces.{pieces, in-pieces}
 use Rattle.sheet.proofs.Dues.{findings-are}
 use Rattle.safety.proofs.Safety.{safe-before}
 use Rattle.survey.specs.Surveys.{Survey, stops, draws, surveyProgram}
 use Rattle.judge.specs.Calls.{Judgement, verdict, pathTo, judgeSurvey, judge}
 use Rattle.judge.specs.Worth.{Drawn}
 use Rattle.judge.specs.Shortest.{walkEnd, Least, Shortest, ShortestOf}
-use Rattle.judge.proofs.Walks.{findings-within, findings-lowest, none-nearer}
-use Rattle.judge.proofs.Told.{steps-told}
+use Rattle.judge.proofs.Walks.{findings-at, findings-within, none-lower}
+use Rattle.judge.proofs.StepWords.{steps-told}
 use Rattle.judge.proofs.Promised.{Known, of-read, Worth, survey-worth, of-judge}
 
 onward : Answer → (ℕ → Answer) → Answer
@@ -85,31 +87,44 @@ module _ (p : Program) (ls : List Lemma) (g : Graph) (f : Faithful p ls g) where
     from-walk {k = k} h (go {m = m} {j = j} {js = js} l e w) = word-step js k j h l ∙ rw e (from-walk (edge-near p ls g f k j m h l e .0) w)
 
   -- ---- along the edges
-  least : (x : Finding) (fs : List Finding) → findings p ls g ≡ x ∷ fs → count g ≤ mostNodes → Least p ls g (length (stepsTo g (nodeOf x)))
-  least x fs e few y due js w =
-      let found : List·Memᴰ y (x ∷ fs) = rw e at (findings-are p ls g y .1 due) in
-      let low : Each (λ h. nodeOf x ≤ nodeOf h) (x ∷ fs) = rw e at (findings-lowest p ls g) in
-      let within : Each (λ h. nodeOf h < count g) (x ∷ fs) = rw e at (findings-within p ls g) in
-      let first : nodeOf x ≤ nodeOf y = each-in (λ h. nodeOf x ≤ nodeOf h) (x ∷ fs) low y found in
-      let here : nodeOf y < count g = each-in (λ h. nodeOf h < count g) (x ∷ fs) within y found in
-      omega (arith, distance-path p ls g f mostNodes (nodeOf x) (omega arith) (within .0), rising p ls g f (nodeOf x) (nodeOf y) first here, walk-far p ls g f (omega arith) w)
+  in-nodes : (k n : ℕ) → findingsFrom p ls g k n ≡ pieces (findingsAt p ls g) k n
+  unfolding findingsFrom pieces
+  in-nodes k zero = refl
+  in-nodes k (suc n) = rw (in-nodes (suc k) n) refl
 
-  -- so nodes nearer than it have no finding
-  clear : (x : Finding) (fs : List Finding) → findings p ls g ≡ x ∷ fs → count g ≤ mostNodes → (k : ℕ) → k < count g → distance g k < length (stepsTo g (nodeOf x)) → findingsAt p ls g k ≡ []
-  clear x fs e few k h near =
-      let within : Each (λ h. nodeOf h < count g) (x ∷ fs) = rw e at (findings-within p ls g) in
-      let far = distance-path p ls g f mostNodes (nodeOf x) (omega arith) (within .0) in
-      none-nearer p ls g x fs e k (⊎-elim (λ lt. lt) (λ le. absurd (omega (arith, far, near, rising p ls g f (nodeOf x) k le h))) (lt-or-le k (nodeOf x)))
+  -- the first finding's node is the lowest that has one
+  lowest : (x : Finding) (fs : List Finding) → findings p ls g ≡ x ∷ fs → (y : Finding) → Due p ls g y → (nodeOf x ≤ nodeOf y) × (nodeOf y < count g)
+  lowest x fs e y due =
+      let (k, h, here) = in-pieces (findingsAt p ls g) y (count g) .0 (rw (in-nodes 0 (count g)) at (findings-are p ls g y .1 due)) in
+      let at : nodeOf y ≡ k = each-in (λ h. nodeOf h ≡ k) (findingsAt p ls g k) (findings-at p ls g k) y here in
+      let not-before : nodeOf x ≤ k = ⊎-elim (λ lt. absurd (List·Memᴰ·not-nil (rw (none-lower p ls g x fs e k lt) at here))) (λ le. le) (lt-or-le k (nodeOf x)) in
+      (omega (arith, at, not-before), omega (arith, at, h))
+
+  module _ (x : Finding) (fs : List Finding) (e : findings p ls g ≡ x ∷ fs) (few : count g ≤ mostNodes) where
+    pub at-node : nodeOf x < count g
+    at-node = (rw e at (findings-within p ls g)) .0
+
+    far : length (stepsTo g (nodeOf x)) ≡ distance g (nodeOf x)
+    far = distance-path p ls g f mostNodes (nodeOf x) (omega (arith, few, at-node)) at-node
+
+    pub least : Least p ls g (length (stepsTo g (nodeOf x)))
+    least y due js w =
+        let (first, here) = lowest x fs e y due in
+        omega (arith, far, rising p ls g f (nodeOf x) (nodeOf y) first here, walk-far p ls g f (omega (arith, here)) w)
+
+    -- nodes nearer than it have no finding
+    pub clear : (k : ℕ) → k < count g → distance g k < length (stepsTo g (nodeOf x)) → findingsAt p ls g k ≡ []
+    clear k h near = none-lower p ls g x fs e k (⊎-elim (λ lt. lt) (λ le. absurd (omega (arith, far, near, rising p ls g f (nodeOf x) k le h))) (lt-or-le k (nodeOf x)))
 
   walks-in-words : {nodes edges : ℕ} {before after : List ℕ} → Drawn p ls g nodes edges before after → (js : List ℕ) (k : ℕ) → 0 < count g
       → (walkEnd actions after 0 js ≡ To k) ↔ Walk actions g 0 js k
   walks-in-words {after = after} d js k h = (to-walk (d .few) after _ (d .records) js 0 k h, from-walk (d .few) after _ (d .records) h)
 
 pub walks : (p : Program) (ls : List Lemma) (g : Graph) (nodes edges : ℕ) (before after : List ℕ) → Drawn p ls g nodes edges before after → (k : ℕ) → k < count g → let a = length (p .actions) in
-    ((js : List ℕ) → ((walkEnd a after 0 js ≡ To k) ↔ Walk a g 0 js k) × (Walk a g 0 js k → distance g k ≤ length js)) × ((i : ℕ) → i ≤ k → distance g i ≤ distance g k)
+    ((js : List ℕ) → ((walkEnd a after 0 js ≡ To k) ↔ Walk a g 0 js k) × (Walk a g 0 js k → distance g k ≤ length js)) × ((js : List ℕ) × Walk a g 0 js k × (length js ≡ distance g k)) × ((i : ℕ) → i ≤ k → distance g i ≤ distance g k)
 walks p ls g nodes edges before after d k h =
     let some : 0 < count g = omega arith in
-    (λ js. (walks-in-words p ls g (d .faithful) d js k some, walk-far p ls g (d .faithful) some), λ i le. rising p ls g (d .faithful) i k le h)
+    (λ js. (walks-in-words p ls g (d .faithful) d js k some, walk-far p ls g (d .faithful) some), nearest p ls g (d .faithful) k h, λ i le. rising p ls g (d .faithful) i k le h)
 
 -- ---- of a judgement, and so of Judge
 abbrev Brief : List ℕ → List ℕ → Judgement → Type 0
@@ -121,12 +136,13 @@ module _ (ws lemmas gl pl : List ℕ) where
     shortest x fs e =
         let f = k .drawn .faithful in
         let few = k .drawn .few in
-        let within : Each (λ h. nodeOf h < count g) (x ∷ fs) = rw e at (findings-within p ls g) in
-        rw (steps-told p (k .good) ls g f few (nodeOf x) (within .0) pl) (
+        let stored = at-node p ls g f x fs e few in
+        let first = least p ls g f x fs e few in
+        rw (steps-told p (k .good) ls g f few (nodeOf x) stored pl) (
           g,
           f,
-          least p ls g f x fs e few,
-          λ y due js w. least p ls g f x fs e few y due js (walks-in-words p ls g f (k .drawn) js (nodeOf y) (omega (arith, within .0)) .0 w),
+          first,
+          λ y due js w. first y due js (walks-in-words p ls g f (k .drawn) js (nodeOf y) (omega (arith, stored)) .0 w),
           safe-before p (k .good) ls (k .lemmas-good) g f (length (stepsTo g (nodeOf x))) (clear p ls g f x fs e few),
         )
 

@@ -1,4 +1,4 @@
--- Every finding is at a node of the graph, the first at the lowest of these nodes, and the path to a node is a walk from node 0 to it.
+-- Every finding is at a node of the graph, the first at the lowest node that has one, and the path to a node is a walk from node 0 to it.
 use mathlib.Core.Path.{_≡_, refl, sym, ap}
 use mathlib.Core.Logic.{⊎-elim}
 use mathlib.Core.Bool.{Bool, true, false, cond}
@@ -23,7 +23,7 @@ use Rattle.abstraction.specs.Faithful.{literalsAt}
 use Rattle.verdict.specs.Verdicts.{Finding, Forbid, RunOff, contradicted, unless, forbids, ends, hasNext, runsOff, findingsAt, findingsFrom, findings, nodeOf, stepsTo}
 
 -- ---- every finding is at a node of the graph
-abbrev At : ℕ → List Finding → Type 0
+abbrev pub At : ℕ → List Finding → Type 0
 At k fs = Each (λ f. nodeOf f ≡ k) fs
 
 module _ (P : Finding → Type 0) where
@@ -58,18 +58,6 @@ if-at : (k : ℕ) (b : Bool) (fs : List Finding) → At k fs → At k (cond b fs
 if-at k true fs h = h
 if-at k false fs h = tt
 
--- the first one's node is at most that of each
-abbrev pub Lowest : List Finding → Type 0
-Lowest [] = Unit {0}
-Lowest (f ∷ fs) = Each (λ h. nodeOf f ≤ nodeOf h) (f ∷ fs)
-
-lowest-append : {P : Finding → Type 0} (k : ℕ) (xs ys : List Finding) → At k xs → ((f : Finding) → P f → k ≤ nodeOf f) → Each P ys → Lowest ys → Lowest (xs ++ ys)
-lowest-append k [] ys h low q l = l
-lowest-append {P} k (x ∷ xs) ys h low q l =
-    each-append (λ f. nodeOf x ≤ nodeOf f) (x ∷ xs) ys
-    (each-weaken (λ f. nodeOf f ≡ k) (λ f. nodeOf x ≤ nodeOf f) (λ f e. omega (arith, e, h .0)) (x ∷ xs) h)
-    (each-weaken P (λ f. nodeOf x ≤ nodeOf f) (λ f e. omega (arith, low f e, h .0)) ys q)
-
 abbrev pub next : Program → List Lemma → ℕ → ℕ → Answer
 next p ls w j = answer (successor p ls j (literalsIn 14 (payload w)))
 
@@ -82,34 +70,21 @@ module _ (p : Program) (ls : List Lemma) (g : Graph) where
       let b = hasNext (successor p ls j (literalsAt g k)) in
       each-append (λ f. nodeOf f ≡ k) (cond b here []) (runsOff p ls (literalsAt g k) k (suc j) rest) (if-at k b here (ends-at (applies p ls j (literalsAt g k)) k j (a .sets))) (runs-off-at k (suc j) rest)
 
-  findings-at : (k : ℕ) → At k (findingsAt p ls g k)
+  pub findings-at : (k : ℕ) → At k (findingsAt p ls g k)
   findings-at k = each-append (λ f. nodeOf f ≡ k) (forbids k (literalsAt g k) 0 (p .forbidden)) (runsOff p ls (literalsAt g k) k 0 (p .actions)) (forbids-at k (literalsAt g k) 0 (p .forbidden)) (runs-off-at k 0 (p .actions))
 
-  -- those from node k on, of n nodes
-  abbrev Among : ℕ → ℕ → List Finding → Type 0
-  Among k n fs = Each (λ f. (k ≤ nodeOf f) × (nodeOf f < k + n)) fs
-
-  among-from : (k n : ℕ) → Among k n (findingsFrom p ls g k n)
+  within-from : (k n : ℕ) → Each (λ f. nodeOf f < k + n) (findingsFrom p ls g k n)
   unfolding findingsFrom
-  among-from k zero = tt
-  among-from k (suc n) =
-      each-append (λ f. (k ≤ nodeOf f) × (nodeOf f < k + suc n)) (findingsAt p ls g k) (findingsFrom p ls g (suc k) n)
-      (each-weaken (λ f. nodeOf f ≡ k) (λ f. (k ≤ nodeOf f) × (nodeOf f < k + suc n)) (λ f e. (omega (arith, e), omega (arith, e))) (findingsAt p ls g k) (findings-at k))
-      (each-weaken (λ f. (suc k ≤ nodeOf f) × (nodeOf f < suc k + n)) (λ f. (k ≤ nodeOf f) × (nodeOf f < k + suc n)) (λ f e. (omega (arith, e .0), omega (arith, e .1))) (findingsFrom p ls g (suc k) n) (among-from (suc k) n))
+  within-from k zero = tt
+  within-from k (suc n) =
+      each-append (λ f. nodeOf f < k + suc n) (findingsAt p ls g k) (findingsFrom p ls g (suc k) n)
+      (each-weaken (λ f. nodeOf f ≡ k) (λ f. nodeOf f < k + suc n) (λ f e. omega (arith, e)) (findingsAt p ls g k) (findings-at k))
+      (each-weaken (λ f. nodeOf f < suc k + n) (λ f. nodeOf f < k + suc n) (λ f e. omega (arith, e)) (findingsFrom p ls g (suc k) n) (within-from (suc k) n))
 
   pub findings-within : Each (λ f. nodeOf f < count g) (findings p ls g)
-  findings-within = each-weaken (λ f. (0 ≤ nodeOf f) × (nodeOf f < 0 + count g)) (λ f. nodeOf f < count g) (λ f e. omega (arith, e .1)) (findings p ls g) (among-from 0 (count g))
+  findings-within = each-weaken (λ f. nodeOf f < 0 + count g) (λ f. nodeOf f < count g) (λ f e. omega (arith, e)) (findings p ls g) (within-from 0 (count g))
 
-  -- ---- the first finding's node is the lowest
-  lowest-from : (k n : ℕ) → Lowest (findingsFrom p ls g k n)
-  unfolding findingsFrom
-  lowest-from k zero = tt
-  lowest-from k (suc n) = lowest-append k (findingsAt p ls g k) (findingsFrom p ls g (suc k) n) (findings-at k) (λ f e. omega (arith, e .0)) (among-from (suc k) n) (lowest-from (suc k) n)
-
-  pub findings-lowest : Lowest (findings p ls g)
-  findings-lowest = lowest-from 0 (count g)
-
-  -- nodes before it have none
+  -- ---- nodes before the first finding's have none
   none-before : (i n : ℕ) (x : Finding) (fs : List Finding) → findingsFrom p ls g i n ≡ x ∷ fs → (k : ℕ) → i ≤ k → k < nodeOf x → findingsAt p ls g k ≡ []
   unfolding findingsFrom
   none-before i zero x fs e k le lt = absurd (cons≢nil (sym e))
@@ -123,8 +98,8 @@ module _ (p : Program) (ls : List Lemma) (g : Graph) where
           let same : y ≡ x = cc in
           absurd (omega (arith, first, ap nodeOf same, le, lt))
 
-  pub none-nearer : (x : Finding) (fs : List Finding) → findings p ls g ≡ x ∷ fs → (k : ℕ) → k < nodeOf x → findingsAt p ls g k ≡ []
-  none-nearer x fs e k lt = none-before 0 (count g) x fs e k (omega arith) lt
+  pub none-lower : (x : Finding) (fs : List Finding) → findings p ls g ≡ x ∷ fs → (k : ℕ) → k < nodeOf x → findingsAt p ls g k ≡ []
+  none-lower x fs e k lt = none-before 0 (count g) x fs e k (omega arith) lt
 
   -- ---- the path to a node
   module _ (e : graph p ls ≡ Done g) where

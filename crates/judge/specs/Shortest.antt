@@ -1,7 +1,7 @@
 -- Request 7: no walk in the graph from node 0 to any node with a finding has fewer steps than the path in the verdict.
 --
 -- walkEnd    — the node to which a list of actions leads from node k along the EDGE words of a graph list; none where one names no successor, or an
---              action is not one of a
+--              action is not below a
 -- Least      — no walk in a graph from node 0 to a node with a finding, one of those that request 2 lists, has fewer than n steps
 -- Unbeaten   — of a graph list and a path list: no such walk along the EDGE words has fewer steps than there are STEP words
 -- SafeBefore — every run from a start state that makes fewer than n moves is safe
@@ -43,7 +43,7 @@ abbrev pub Unbeaten : Program → List Lemma → Graph → List ℕ → List ℕ
 Unbeaten p ls g gl pl =
     (f : Finding) → Due p ls g f → (js : List ℕ) → walkEnd (length (p .actions)) gl 0 js ≡ To (nodeOf f) → length (stepsIn pl) ≤ length js
 
--- so in the show itself nothing goes wrong before n actions have been taken
+-- so in the show itself nothing goes wrong before n moves
 abbrev pub SafeBefore : Program → ℕ → Type 0
 SafeBefore p n = (s : List ℤ) → Start p s → (ks : List ℕ) → Each (λ k. k < length (p .actions)) ks → run p ks s .moves < n → SafeRun p (run p ks s)
 

@@ -114,7 +114,7 @@ pub shortest : ((ws lemmas gl pl : List ℕ) → let j = judge ws lemmas gl pl i
     × ((b js : List ℕ) → Ends (pathLine js) (linesOf b) → ShortestShow b (length js))
 shortest = (Rattle.judge.proofs.Shortest.judge-shortest, Rattle.report.proofs.PathLine.path-line)
 
--- the walks along the words that a verdict leaves are the graph's; none from node 0 to a node has fewer steps than its distance, and distances never fall from one node to a later one
+-- the walks along the words that a verdict leaves are the graph's; a node's distance is the fewest steps of one from node 0 to it, and never falls from one node to a later one
 pub walks : (p : Program) (ls : List Lemma) (g : Graph) (n e : ℕ) (before after : List ℕ) → Drawn p ls g n e before after → (k : ℕ) → k < count g → let a = length (p .actions) in
-    ((js : List ℕ) → ((walkEnd a after 0 js ≡ To k) ↔ Walk a g 0 js k) × (Walk a g 0 js k → distance g k ≤ length js)) × ((i : ℕ) → i ≤ k → distance g i ≤ distance g k)
+    ((js : List ℕ) → ((walkEnd a after 0 js ≡ To k) ↔ Walk a g 0 js k) × (Walk a g 0 js k → distance g k ≤ length js)) × ((js : List ℕ) × Walk a g 0 js k × (length js ≡ distance g k)) × ((i : ℕ) → i ≤ k → distance g i ≤ distance g k)
 walks = Rattle.judge.proofs.Shortest.walks

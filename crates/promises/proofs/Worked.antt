@@ -1,11 +1,11 @@
 -- That the promises of the requests say something: what they come to in worked shows, by computing.
 use mathlib.Core.{Path.{_≡_}, List.{List, [], _∷_, _++_, map}}
-use Prim.Native.Nat.{ℕ, _≤_}
-use lib.{IntN.{pos, negsuc}, ListN.{length, take}}
+use Prim.Native.Nat.{ℕ, _≤_, _+_}
+use lib.{IntN.{pos, negsuc}, ListN.{length, getD, take}}
 use Rattle.runs.specs.{declared.Failing.{Failing}, declared.Stepped.the-variants.{Moved, NotEnabled, RunsOff}, Guards.{firstFailing}, Calls.{stay, stepCall}}
 use Rattle.rack.specs.Rack.{rackRun, rackCall}
 use Rattle.search.specs.Search.{To}
-use Rattle.records.specs.Records.{graphWords}
+use Rattle.records.specs.Records.{distanceOffset, recordPlace, graphWords}
 use Rattle.verdict.specs.Verdicts.{Forbid, pathWords, stepsIn}
 use Rattle.sheet.specs.Sheets.{findingWord}
 use Rattle.judge.specs.{declared.Judged.the-variants.{MayForbid}, Calls.{judge}, Shortest.{walkEnd}}
@@ -29,9 +29,10 @@ pub near-worked : (let lacks : ℕ → Failing = λ k. record { row = k; value =
 near-worked = Rattle.worked.proofs.Near.near-worked
 
 -- ---- request 7: the shortest press list
--- in shows/shortcut.words the verdict's finding is one step away; another walk to its node has two, and the other findings are two away
+-- in shows/shortcut.words the verdict's finding, at node 3, is one step away, and another walk to its node has two; the other findings, at nodes 4 and 5, are two away
 pub two-distances : (ws : List ℕ) × (lemmas : List ℕ) × (linesOf (bytesOf (ws ++ lemmas)) ≡ text "FORBID node 3 bad 1\nPATH 2\n")
     × ((gl pl fl : List ℕ) → graphWords ≤ length gl → pathWords ≤ length pl → 4 ≤ length fl → let j = judge ws lemmas gl pl in
-    (j .answer ≡ MayForbid 3 1 6 19) × (stepsIn (j .path) ≡ 2 ∷ []) × (walkEnd 4 (j .graph) 0 (1 ∷ 0 ∷ []) ≡ To 3) × (walkEnd 4 (j .graph) 0 (1 ∷ 3 ∷ []) ≡ To 4)
+    (j .answer ≡ MayForbid 3 1 6 19) × (stepsIn (j .path) ≡ 2 ∷ []) × (walkEnd 4 (j .graph) 0 (2 ∷ []) ≡ To 3) × (walkEnd 4 (j .graph) 0 (1 ∷ 0 ∷ []) ≡ To 3) × (walkEnd 4 (j .graph) 0 (1 ∷ 3 ∷ []) ≡ To 4)
+    × (map (λ k. getD (j .graph) (recordPlace 4 k + distanceOffset) 0) (3 ∷ 4 ∷ 5 ∷ []) ≡ 1 ∷ 2 ∷ 2 ∷ [])
     × (take 4 (listing ws lemmas gl fl .list) ≡ map findingWord (Forbid 3 1 ∷ Forbid 4 0 ∷ Forbid 5 0 ∷ Forbid 5 1 ∷ [])))
 two-distances = Rattle.worked.proofs.Shortest.two-distances

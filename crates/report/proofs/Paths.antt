@@ -10,7 +10,7 @@ use Rattle.search.specs.Search.{Graph, count}
 use Rattle.records.specs.Records.{mostNodes}
 use Rattle.abstraction.specs.Faithful.{Faithful}
 use Rattle.verdict.specs.Verdicts.{stepsTo}
-use Rattle.judge.proofs.Told.{Actions, actions-to, steps-few}
+use Rattle.judge.proofs.StepWords.{Actions, actions-to, steps-few}
 use Rattle.lines.specs.Text.{text, field}
 use Rattle.lines.proofs.Decimals.{two-digits}
 use Rattle.report.specs.Report.{stepText}

@@ -21,7 +21,7 @@ use Rattle.judge.specs.Calls.{Judgement, verdict, pathTo, judgeSurvey, judge}
 use Rattle.judge.specs.declared.Judged.the-variants.{Refused}
 use Rattle.judge.proofs.Walks.{findings-within}
 use Rattle.judge.proofs.Promised.{Worth, survey-worth, of-judge}
-use Rattle.judge.proofs.Told.{steps-told}
+use Rattle.judge.proofs.StepWords.{steps-told}
 use Rattle.show.specs.declared.Shown.the-variants.{TooLong, OddBytes}
 use Rattle.show.specs.Show.{mostBytes, wordsIn, logicIn, lemmasIn, ofWords, ofBytes}
 use Rattle.lines.specs.Text.{text, decimal, line}

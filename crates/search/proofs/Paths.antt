@@ -10,7 +10,7 @@ use Rattle.search.proofs.Theorem.{numbered, Whole}
 
 module _ (a : ℕ) (g : Graph) where
   -- one action more
-  walk-on : {k m n j : ℕ} {js : List ℕ} → Walk a g k js m → j < a → edge a g m j ≡ To n → n < count g → Walk a g k (js ++ (j ∷ [])) n
+  pub walk-on : {k m n j : ℕ} {js : List ℕ} → Walk a g k js m → j < a → edge a g m j ≡ To n → n < count g → Walk a g k (js ++ (j ∷ [])) n
   walk-on (stand h) b e l = go b e (stand l)
   walk-on (go c d w) b e l = go c d (walk-on w b e l)
 

@@ -5,8 +5,8 @@
 -- shortcutFindings — its findings in judging order
 use mathlib.Core.Path.{_≡_, refl}
 use mathlib.Core.List.{List, [], _∷_, _++_, map}
-use Prim.Native.Nat.{ℕ, _≤_, _-_}
-use lib.ListN.{length, take, replicate}
+use Prim.Native.Nat.{ℕ, _≤_, _+_, _-_}
+use lib.ListN.{length, getD, take, replicate}
 use lib.Seq.{take-at}
 use Rattle.rows.specs.Rows.{dot, corner}
 use Rattle.grammar.specs.Reading.{due, one, times, many}
@@ -18,7 +18,7 @@ use Rattle.frame.specs.Frame.{zeroOn}
 use Rattle.formula.specs.Formula.{conjuncts}
 use Rattle.search.specs.Search.{To, linksIn, turns, visited, explored}
 use Rattle.search.specs.Paths.{back}
-use Rattle.records.specs.Records.{graphWords, edgeRow, recordsOf}
+use Rattle.records.specs.Records.{distanceOffset, recordPlace, graphWords, edgeRow, recordsOf}
 use Rattle.words.specs.LiteralSets.{literalsIn, setOf}
 use Rattle.abstraction.specs.Abstraction.{among, allAmong, applies}
 use Rattle.tables.specs.Off.{firstOff}
@@ -89,11 +89,12 @@ unfolding
     findingsFrom edgeRow recordsOf
 shortcut-listed = fits shortcut shortcutLemmas shortcutRecords shortcutFindings (λ gl fl. refl)
 
--- in what Judge leaves: one step; two lead to the same node, and to that of the second finding
-steps-told : (gl pl : List ℕ) → let j = left (MayForbid 3 1 6 19) shortcutRecords (0xD0000002 ∷ []) gl pl in
-    (stepsIn (j .path) ≡ 2 ∷ []) × (walkEnd 4 (j .graph) 0 (1 ∷ 0 ∷ []) ≡ To 3) × (walkEnd 4 (j .graph) 0 (1 ∷ 3 ∷ []) ≡ To 4)
+-- in what Judge leaves: one step; two lead to the same node, and two to that of the second finding; and how far the three nodes with findings are
+left-told : (gl pl : List ℕ) → let j = left (MayForbid 3 1 6 19) shortcutRecords (0xD0000002 ∷ []) gl pl in
+    (stepsIn (j .path) ≡ 2 ∷ []) × (walkEnd 4 (j .graph) 0 (2 ∷ []) ≡ To 3) × (walkEnd 4 (j .graph) 0 (1 ∷ 0 ∷ []) ≡ To 3) × (walkEnd 4 (j .graph) 0 (1 ∷ 3 ∷ []) ≡ To 4)
+    × (map (λ k. getD (j .graph) (recordPlace 4 k + distanceOffset) 0) (3 ∷ 4 ∷ 5 ∷ []) ≡ 1 ∷ 2 ∷ 2 ∷ [])
 unfolding stepsIn walkEnd
-steps-told gl pl = (refl, refl, refl)
+left-told gl pl = (refl, refl, refl, refl, refl)
 
 -- ---- the lines that are printed for its bytes
 shortcut-words : (wordsIn (bytesOf (shortcut ++ shortcutLemmas)) ≡ shortcut ++ shortcutLemmas) × (logicIn (shortcut ++ shortcutLemmas) ≡ shortcut) × (lemmasIn (shortcut ++ shortcutLemmas) ≡ shortcutLemmas)
@@ -114,14 +115,15 @@ shortcut-lines =
 
 pub two-distances : (ws : List ℕ) × (lemmas : List ℕ) × (linesOf (bytesOf (ws ++ lemmas)) ≡ text "FORBID node 3 bad 1\nPATH 2\n")
     × ((gl pl fl : List ℕ) → graphWords ≤ length gl → pathWords ≤ length pl → 4 ≤ length fl → let j = judge ws lemmas gl pl in
-    (j .answer ≡ MayForbid 3 1 6 19) × (stepsIn (j .path) ≡ 2 ∷ []) × (walkEnd 4 (j .graph) 0 (1 ∷ 0 ∷ []) ≡ To 3) × (walkEnd 4 (j .graph) 0 (1 ∷ 3 ∷ []) ≡ To 4)
+    (j .answer ≡ MayForbid 3 1 6 19) × (stepsIn (j .path) ≡ 2 ∷ []) × (walkEnd 4 (j .graph) 0 (2 ∷ []) ≡ To 3) × (walkEnd 4 (j .graph) 0 (1 ∷ 0 ∷ []) ≡ To 3) × (walkEnd 4 (j .graph) 0 (1 ∷ 3 ∷ []) ≡ To 4)
+    × (map (λ k. getD (j .graph) (recordPlace 4 k + distanceOffset) 0) (3 ∷ 4 ∷ 5 ∷ []) ≡ 1 ∷ 2 ∷ 2 ∷ [])
     × (take 4 (listing ws lemmas gl fl .list) ≡ map findingWord (Forbid 3 1 ∷ Forbid 4 0 ∷ Forbid 5 0 ∷ Forbid 5 1 ∷ [])))
 two-distances = (
   shortcut,
   shortcutLemmas,
   shortcut-lines,
   λ gl pl fl roomy long room.
-      let (step, further, other) = steps-told gl pl in
+      let (step, path, longer, further, distances) = left-told gl pl in
       rw (shortcut-judged gl pl roomy long, shortcut-listed gl fl roomy room)
-      (refl, step, further, other, take-at (map findingWord shortcutFindings) (replicate (length fl - 4) 0) 4 refl),
+      (refl, step, path, longer, further, distances, take-at (map findingWord shortcutFindings) (replicate (length fl - 4) 0) 4 refl),
 )

@@ -16,13 +16,13 @@ use Rattle.verdict.proofs.first_finding.Tie as tie
 
 abbrev Inv-loop : tie.InvT-loop
 Inv-loop premises keys n literals forbidden asked kept actions graph nodes k₀ k =
-    (k ≤ nodes) × ((p : Program) (ls : List Lemma) (g : Graph) → Judging p ls g (entries premises keys n) literals forbidden asked kept actions graph → nodes ≡ count g → Nothing-before p ls g nodes k)
+    ((p : Program) (ls : List Lemma) (g : Graph) → Judging p ls g (entries premises keys n) literals forbidden asked kept actions graph → nodes ≡ count g → Nothing-before p ls g nodes k) × (k ≤ nodes)
 
 abbrev μ-loop : tie.MeasureT-loop
 μ-loop premises keys n literals forbidden asked kept actions graph nodes k₀ k = nodes - k
 
 loop-holds : tie.Need-loop-holds Inv-loop μ-loop
-loop-holds c = (omega arith, λ p ls g J e. before-first p ls g _ e)
+loop-holds c = (λ p ls g J e. before-first p ls g _ e, omega arith)
 
 found-at-requires : tie.Need-found-at-requires Inv-loop μ-loop
 found-at-requires c κs = search needs
@@ -41,8 +41,8 @@ loop-again c =
     let f = c .before .before in
     let l = f .before .before in
     let nodes = l .before .before .before .before .before .args .nodes in (
+      λ p ls g J e. nothing-yet p ls g nodes (l .loop .k) (l .loop .inv .0 p ls g J e) (omega arith) (f .found-at .result) (f .found-at .ensures .1 p ls g J (omega arith)) (c .enum-told .given .1),
       omega arith,
-      λ p ls g J e. nothing-yet p ls g nodes (l .loop .k) (l .loop .inv .1 p ls g J e) (omega arith) (f .found-at .result) (f .found-at .ensures .1 p ls g J (omega arith)) (c .enum-told .given .1),
     )
 
 returns : tie.Need-returns Inv-loop μ-loop
@@ -51,13 +51,13 @@ returns c =
     let l = f .before .before in
     let nodes = l .before .before .before .before .before .args .nodes in (
       within-more (f .found-at .result) (l .loop .k + 1) nodes (omega arith) (f .found-at .ensures .0),
-      λ p ls g J e. found-here p ls g nodes (l .loop .k) (l .loop .inv .1 p ls g J e) (omega arith) (f .found-at .result) (f .found-at .ensures .1 p ls g J (omega arith)) (λ z. ⊎-elim (λ q. omega arith) (λ q. omega arith) (rw z at (c .match .keys2))),
+      λ p ls g J e. found-here p ls g nodes (l .loop .k) (l .loop .inv .0 p ls g J e) (omega arith) (f .found-at .result) (f .found-at .ensures .1 p ls g J (omega arith)) (λ z. ⊎-elim (λ q. omega arith) (λ q. omega arith) (rw z at (c .match .keys2))),
     )
 
 returns-2 : tie.Need-returns-2 Inv-loop μ-loop
 returns-2 c =
     let l = c .before in
-    (tt, λ p ls g J e. found-none p ls g (l .before .before .before .before .before .args .nodes) (l .loop .k) (l .loop .inv .1 p ls g J e) (omega arith))
+    (tt, λ p ls g J e. found-none p ls g (l .before .before .before .before .before .args .nodes) (l .loop .k) (l .loop .inv .0 p ls g J e) (omega arith))
 
 pub first-finding-spec : {M : Type 1} → statement M
 first-finding-spec =

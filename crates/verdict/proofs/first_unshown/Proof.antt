@@ -11,13 +11,13 @@ use Rattle.verdict.proofs.first_unshown.Statement.{statement}
 use Rattle.verdict.proofs.first_unshown.Tie as tie
 
 abbrev Inv-loop : tie.InvT-loop
-Inv-loop actions k asked shown j₀ j = (j ≤ actions) × (firstUnshown asked shown k j (actions - j) ≡ firstUnshown asked shown k 0 actions)
+Inv-loop actions k asked shown j₀ j = (firstUnshown asked shown k j (actions - j) ≡ firstUnshown asked shown k 0 actions) × (j ≤ actions)
 
 abbrev μ-loop : tie.MeasureT-loop
 μ-loop actions k asked shown j₀ j = actions - j
 
 loop-holds : tie.Need-loop-holds Inv-loop μ-loop
-loop-holds c = (omega arith, rw (sub-zero (c .args .actions)) refl)
+loop-holds c = (rw (sub-zero (c .args .actions)) refl, omega arith)
 
 mul-seen : tie.Need-mul-seen Inv-loop μ-loop
 mul-seen c = search needs
@@ -46,7 +46,7 @@ returns c =
     let r = c .before .before in
     let l = r .before .before .before in
     let a = l .before .args in
-    off-here (a .t1) (a .t2) (a .k) (a .actions) (l .loop .j) (l .loop .inv .1) (omega arith) (sym (r .before .has-successor .ensures) ∙ r .if1 .taken) (m .result) (m .ensures) (c .if2 .taken)
+    off-here (a .t1) (a .t2) (a .k) (a .actions) (l .loop .j) (l .loop .inv .0) (omega arith) (sym (r .before .has-successor .ensures) ∙ r .if1 .taken) (m .result) (m .ensures) (c .if2 .taken)
 
 add-j : tie.Need-add-j Inv-loop μ-loop
 add-j c = search needs
@@ -59,16 +59,16 @@ loop-again c =
     let l = c .before .before .before in
     let a = l .before .args in
     let is = c .before .has-successor .ensures in (
+      ⊎-elim (λ w. off-kept (a .t1) (a .t2) (a .k) (a .actions) (l .loop .j) (l .loop .inv .0) (omega arith) (sym is ∙ w .0 .taken) (w .1 .result) (w .1 .ensures) (w .2 .left))
+          (λ w. off-skip (a .t1) (a .t2) (a .k) (a .actions) (l .loop .j) (l .loop .inv .0) (omega arith) (sym is ∙ w .left)) (c .if1 .came),
       omega arith,
-      ⊎-elim (λ w. off-kept (a .t1) (a .t2) (a .k) (a .actions) (l .loop .j) (l .loop .inv .1) (omega arith) (sym is ∙ w .0 .taken) (w .1 .result) (w .1 .ensures) (w .2 .left))
-          (λ w. off-skip (a .t1) (a .t2) (a .k) (a .actions) (l .loop .j) (l .loop .inv .1) (omega arith) (sym is ∙ w .left)) (c .if1 .came),
     )
 
 returns-2 : tie.Need-returns-2 Inv-loop μ-loop
 returns-2 c =
     let l = c .before in
     let a = l .before .args in
-    off-end (a .t1) (a .t2) (a .k) (a .actions) (l .loop .j) (l .loop .inv .1) (omega arith)
+    off-end (a .t1) (a .t2) (a .k) (a .actions) (l .loop .j) (l .loop .inv .0) (omega arith)
 
 pub first-unshown-spec : {M : Type 1} → statement M
 first-unshown-spec =
