@@ -86,7 +86,7 @@ static int print_refusal(uint32_t number, size_t value)
     return REFUSED;
 }
 
-/* The actions that lead to a finding. */
+/* The actions that lead to a finding: in the graph no list of fewer leads to any. */
 static int print_path(void)
 {
     printf("actions:");

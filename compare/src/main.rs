@@ -135,10 +135,12 @@ fn main() -> ExitCode {
         let sweeps = scope.spawn(|| timed(seed, sweep::sweep));
         let made = timed(seed, |compare| run(compare, inputs, seed));
         // On this thread: by default the other sweeps take longer than the inputs.
+        let graphs = timed(seed, sweep::graphs);
         let racks = timed(seed, racks::sweep);
         let nears = timed(seed, nears::sweep);
         let sweeps = sweeps.join().expect("the sweeps panicked");
-        [(made, "inputs"), (sweeps, "sweeps"), (racks, "the rack's sweeps"), (nears, "the guards' sweeps")]
+        let names = ["inputs", "sweeps", "the graphs' sweeps", "the rack's sweeps", "the guards' sweeps"];
+        [made, sweeps, graphs, racks, nears].into_iter().zip(names).collect::<Vec<_>>()
     });
     let mut seldom = Vec::new();
     let least = if inputs < 100_000 { inputs / 1000 } else { 100 };

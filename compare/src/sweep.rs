@@ -158,7 +158,7 @@ impl Sweep<'_> {
     }
 }
 
-/// All sweeps; hands back how many inputs they had.
+/// Sweeps over words: damages, lengths, views, states, and request 1's clause; hands back how many inputs they had.
 pub fn sweep(compare: &mut Compare) -> Result<u64, Difference> {
     let mut sweep = Sweep { compare, inputs: 0 };
     let text = full();
@@ -178,17 +178,29 @@ pub fn sweep(compare: &mut Compare) -> Result<u64, Difference> {
     sweep.kept_by_one()?;
     sweep.kept_by_two()?;
     sweep.kept_by_variables()?;
+    let more = DUE.iter().copied().filter(|name| name.starts_with("rack "));
+    sweep.had(NAMES.into_iter().chain(more))
+}
+
+/// Sweeps over graphs: findings, distances, paths.
+pub fn graphs(compare: &mut Compare) -> Result<u64, Difference> {
+    let mut sweep = Sweep { compare, inputs: 0 };
     sweep.sheets()?;
     sweep.rings()?;
     sweep.walks()?;
-    let more = DUE.iter().copied().filter(|name| name.starts_with("findings") || name.starts_with("rack "));
-    match NAMES.into_iter().chain(RINGS).chain(WALKS).chain(more).find(|name| sweep.compare.counts.of(name) == 0) {
-        Some(name) => Err(format!("the sweeps never had: {name}")),
-        None => Ok(sweep.inputs),
-    }
+    let more = DUE.iter().copied().filter(|name| name.starts_with("findings"));
+    sweep.had(RINGS.into_iter().chain(WALKS).chain(more))
 }
 
 impl Sweep<'_> {
+    /// How many inputs there were, if each of these occurred.
+    fn had(&self, mut names: impl Iterator<Item = &'static str>) -> Result<u64, Difference> {
+        match names.find(|name| self.compare.counts.of(name) == 0) {
+            Some(name) => Err(format!("the sweeps never had: {name}")),
+            None => Ok(self.inputs),
+        }
+    }
+
     /// Every damage to the program.
     fn programs(&mut self, mut input: Input) -> Result<(), Difference> {
         let program = input.program.clone();

@@ -53,7 +53,7 @@ fn load(name: &Path) -> std::io::Result<Vec<u8>> {
     Ok(bytes)
 }
 
-/// The actions that lead to a finding.
+/// The actions that lead to a finding: in the graph no list of fewer leads to any.
 fn path_text(path: &[u32]) -> String {
     if actions(path).next().is_none() {
         return "actions: none\n".to_string();
