@@ -1,25 +1,30 @@
 -- Distances and walks in a graph that is formula (3)'s.
 --     rising              distances never fall from one node to a later one
 --     edge-near           an edge leads one further out at most
---     walk-far, nearest   no walk from node 0 to a node has fewer steps than its distance, and one has as many
+--     walk-far            no walk from node 0 to a node has fewer steps than its distance
+--     path-walk           the path to a node, which has as many, is a walk
 use mathlib.Core.Path.{_≡_, ap, _∙_}
 use mathlib.Core.Logic.{inl, ⊎-elim}
-use mathlib.Core.List.{List, [], _∷_, _++_}
+use mathlib.Core.List.{List, [], _∷_, _++_, reverse, reverse-cons}
 use Prim.Native.Nat.{ℕ, zero, suc, _+_, _<_, _≤_}
 use native.Mathlib.Omega.{arith}
 use native.Mathlib.Nat.{not-suc-le-zero}
-use lib.ListN.{length, length-append}
+use lib.ListN.{length}
 use Rattle.grammar.specs.Programs.{Program}
 use Rattle.lemmas.specs.Lemmas.{Lemma}
 use Rattle.formula.specs.Formula.{Monomial, False, And}
 use Rattle.search.specs.Search.{Answer, To, None, Origin, Root, From, Graph, count, origin, distance, distanceBy, edge}
-use Rattle.search.specs.Paths.{Walk, stand, go}
+use Rattle.search.specs.Paths.{Walk, stand, go, hop, back, path}
 use Rattle.search.proofs.Count.{lt-or-le}
-use Rattle.search.proofs.Paths.{walk-on}
 use Rattle.abstraction.specs.Abstraction.{successor}
 use Rattle.abstraction.specs.Faithful.{literalsAt, Leads, FoundFirst, FoundBefore, Faithful}
 use Rattle.abstraction.proofs.Order.{earlier-node}
 use Rattle.abstraction.proofs.Unique.{distance-number}
+
+-- one action more
+walk-on : (a : ℕ) (g : Graph) {k m n j : ℕ} {js : List ℕ} → Walk a g k js m → j < a → edge a g m j ≡ To n → n < count g → Walk a g k (js ++ (j ∷ [])) n
+walk-on a g (stand h) b e l = go b e (stand l)
+walk-on a g (go c d w) b e l = go c d (walk-on a g w b e l)
 
 module _ (p : Program) (ls : List Lemma) (g : Graph) (f : Faithful p ls g) where
   abbrev actions : ℕ
@@ -60,25 +65,23 @@ module _ (p : Program) (ls : List Lemma) (g : Graph) (f : Faithful p ls g) where
   pub walk-far : {n : ℕ} {js : List ℕ} → 0 < count g → Walk actions g 0 js n → distance g n ≤ length js
   walk-far h w = omega (arith, walk-out h w, distance-number p ls g f 0 h)
 
-  -- ---- a walk of as many steps, by the parents
+  -- ---- the path to a node, by the parents
+  at-root : (k : ℕ) → k ≡ 0 → k < count g → Walk actions g 0 [] k
+  at-root k z h = rw z (stand (rw z at h))
+
   leads-back : (k : ℕ) → k < count g → (x : Monomial) (e : Answer) → Leads g x e → x ≡ And (literalsAt g k) → e ≡ To k
   leads-back k h False None c is = let z : _≡_ {A = ℕ} 0 1 = cc in absurd (omega arith)
   leads-back k h (And s) (To n) c is = let same : s ≡ literalsAt g k = cc in ap To (f .once n k (c .0) h (c .1 ∙ same))
 
-  abbrev Nearest : ℕ → Type 0
-  Nearest k = (js : List ℕ) × Walk actions g 0 js k × (length js ≡ distance g k)
-
-  nearest-below : (n k : ℕ) → k < n → k < count g → Nearest k
-  nearest-below zero k l h = absurd (not-suc-le-zero l)
-  nearest-below (suc n) k l h = by (origin g k) (f .origins k h) (f .distances k h) (nearest-below n)
+  pub path-walk : (n k : ℕ) → k ≤ n → k < count g → Walk actions g 0 (path (g .origins) n k) k
+  unfolding back
+  path-walk zero k le h = at-root k (omega arith) h
+  path-walk (suc n) k le h = by (origin g k) (f .origins k h) (path-walk n)
     where
-      by : (o : Origin) → FoundFirst p ls g k o → distance g k ≡ distanceBy (g .distances) o → ((i : ℕ) → i < n → i < count g → Nearest i) → Nearest k
-      by Root c d before = ([], rw (c .0) (stand (rw (c .0) at h)), omega (arith, d))
-      by (From i j) c d before =
+      by : (o : Origin) → FoundFirst p ls g k o → ((i : ℕ) → i ≤ n → i < count g → Walk actions g 0 (reverse (back (g .origins) n i)) i)
+          → Walk actions g 0 (reverse (hop o (back (g .origins) n))) k
+      by Root c before = at-root k (c .0) h
+      by (From i j) c before =
           let b : i < count g = omega (arith, c .0) in
-          let (js, w, e) = before i (omega (arith, c .0)) b in
           let on = leads-back k h (successor p ls j (literalsAt g i)) (edge actions g i j) (f .edges i j b (c .1)) (c .2) in
-          (js ++ (j ∷ []), walk-on actions g w (c .1) on h, length-append js (j ∷ []) ∙ omega (arith, e, d))
-
-  pub nearest : (k : ℕ) → k < count g → Nearest k
-  nearest k h = nearest-below (suc k) k (omega arith) h
+          rw reverse-cons (walk-on actions g (before i (omega (arith, c .0)) b) (c .1) on h)

@@ -25,6 +25,7 @@ use Rattle.abstraction.specs.Abstraction.{graph}
 use Rattle.abstraction.specs.Faithful.{TooMany, Demand2}
 use Rattle.abstraction.proofs.Demand2.{demand2}
 use Rattle.abstraction.proofs.Unique.{distance-path}
+use Rattle.abstraction.proofs.Shortest.{path-walk}
 use Rattle.tables.specs.Off.{firstOff}
 use Rattle.verdict.specs.Verdicts.{Finding, Forbid, RunOff, findings, nodeOf, pathWords, pathList, stepsTo}
 use Rattle.safety.proofs.Safety.{safe}
@@ -33,7 +34,7 @@ use Rattle.judge.specs.Calls.{Judgement, keep, verdict, pathTo, judgeSur
 use Rattle.judge.specs.Worth.{OfRead, Drawn, Walked, Demand2Of, SafeOf}
 use Rattle.judge.specs.declared.Judged.the-variants.{Refused}
 use Rattle.judge.specs.declared.Judged.the-variants.{Safe as IsSafe}
-use Rattle.judge.proofs.Walks.{findings-within, graph-few, steps-walk}
+use Rattle.judge.proofs.Walks.{findings-within, graph-few}
 
 -- ---- what a survey is worth
 -- the graph that is drawn is that of the program and the lemmas which the words are
@@ -130,7 +131,7 @@ module _ (ws lemmas gl pl : List ℕ) where
     walked : (n : ℕ) → n < count g → Walked p g n pl (pathList (stepsTo g n) pl)
     walked n h = record {
       steps = stepsTo g n;
-      walk = steps-walk p ls g (k .is) n h;
+      walk = path-walk p ls g (k .drawn .faithful) mostNodes n (omega (arith, k .drawn .few)) h;
       long = distance-path p ls g (k .drawn .faithful) mostNodes n (omega (arith, k .drawn .few)) h;
       words = refl;
     }

@@ -25,7 +25,7 @@ use Rattle.records.specs.Naming.{names}
 use Rattle.records.proofs.Listed.{edge-at}
 use Rattle.abstraction.specs.Faithful.{Faithful}
 use Rattle.abstraction.proofs.Unique.{distance-path}
-use Rattle.abstraction.proofs.Shortest.{rising, edge-near, walk-far, nearest}
+use Rattle.abstraction.proofs.Shortest.{rising, edge-near, walk-far, path-walk}
 use Rattle.verdict.specs.Verdicts.{Finding, Forbid, RunOff, findingsAt, findingsFrom, findings, nodeOf, pathList, stepsTo}
 use Rattle.sheet.specs.Sheets.{Due}
 use Rattle.sheet.proofs.Pieces.{pieces, in-pieces}
@@ -101,19 +101,19 @@ module _ (p : Program) (ls : List Lemma) (g : Graph) (f : Faithful p ls g) where
       (omega (arith, at, not-before), omega (arith, at, h))
 
   module _ (x : Finding) (fs : List Finding) (e : findings p ls g ≡ x ∷ fs) (few : count g ≤ mostNodes) where
-    pub at-node : nodeOf x < count g
+    at-node : nodeOf x < count g
     at-node = (rw e at (findings-within p ls g)) .0
 
     far : length (stepsTo g (nodeOf x)) ≡ distance g (nodeOf x)
     far = distance-path p ls g f mostNodes (nodeOf x) (omega (arith, few, at-node)) at-node
 
-    pub least : Least p ls g (length (stepsTo g (nodeOf x)))
+    least : Least p ls g (length (stepsTo g (nodeOf x)))
     least y due js w =
         let (first, here) = lowest x fs e y due in
         omega (arith, far, rising p ls g f (nodeOf x) (nodeOf y) first here, walk-far p ls g f (omega (arith, here)) w)
 
     -- nodes nearer than it have no finding
-    pub clear : (k : ℕ) → k < count g → distance g k < length (stepsTo g (nodeOf x)) → findingsAt p ls g k ≡ []
+    clear : (k : ℕ) → k < count g → distance g k < length (stepsTo g (nodeOf x)) → findingsAt p ls g k ≡ []
     clear k h near = none-lower p ls g x fs e k (⊎-elim (λ lt. lt) (λ le. absurd (omega (arith, far, near, rising p ls g f (nodeOf x) k le h))) (lt-or-le k (nodeOf x)))
 
   walks-in-words : {nodes edges : ℕ} {before after : List ℕ} → Drawn p ls g nodes edges before after → (js : List ℕ) (k : ℕ) → 0 < count g
@@ -123,8 +123,13 @@ module _ (p : Program) (ls : List Lemma) (g : Graph) (f : Faithful p ls g) where
 pub walks : (p : Program) (ls : List Lemma) (g : Graph) (nodes edges : ℕ) (before after : List ℕ) → Drawn p ls g nodes edges before after → (k : ℕ) → k < count g → let a = length (p .actions) in
     ((js : List ℕ) → ((walkEnd a after 0 js ≡ To k) ↔ Walk a g 0 js k) × (Walk a g 0 js k → distance g k ≤ length js)) × ((js : List ℕ) × Walk a g 0 js k × (length js ≡ distance g k)) × ((i : ℕ) → i ≤ k → distance g i ≤ distance g k)
 walks p ls g nodes edges before after d k h =
-    let some : 0 < count g = omega arith in
-    (λ js. (walks-in-words p ls g (d .faithful) d js k some, walk-far p ls g (d .faithful) some), nearest p ls g (d .faithful) k h, λ i le. rising p ls g (d .faithful) i k le h)
+    let f = d .faithful in
+    let some : 0 < count g = omega (arith, h) in
+    let low : k ≤ mostNodes = omega (arith, h, d .few) in (
+      λ js. (walks-in-words p ls g f d js k some, walk-far p ls g f some),
+      (stepsTo g k, path-walk p ls g f mostNodes k low h, distance-path p ls g f mostNodes k low h),
+      λ i le. rising p ls g f i k le h,
+    )
 
 -- ---- of a judgement, and so of Judge
 abbrev Brief : List ℕ → List ℕ → Judgement → Type 0

@@ -1,4 +1,4 @@
--- Every finding is at a node of the graph, the first at the lowest node that has one, and the path to a node is a walk from node 0 to it.
+-- Every finding is at a node of the graph, and the first at the lowest node that has one.
 use mathlib.Core.Path.{_≡_, refl, sym, ap}
 use mathlib.Core.Logic.{⊎-elim}
 use mathlib.Core.Bool.{Bool, true, false, cond}
@@ -13,14 +13,12 @@ use Rattle.lemmas.specs.Lemmas.{Goal, NotBelow, NotAbove, Lemma}
 use Rattle.words.specs.Words.{payload}
 use Rattle.words.specs.LiteralSets.{Literal, literalsIn}
 use Rattle.search.specs.Search.{Answer, Graph, Done, count}
-use Rattle.search.specs.Paths.{Walk}
 use Rattle.search.proofs.Count.{lt-or-le}
 use Rattle.search.proofs.Theorem.{Whole, whole}
-use Rattle.search.proofs.Paths.{path-in-graph}
 use Rattle.records.specs.Records.{mostNodes}
 use Rattle.abstraction.specs.Abstraction.{applies, successor, start, answer, graph}
 use Rattle.abstraction.specs.Faithful.{literalsAt}
-use Rattle.verdict.specs.Verdicts.{Finding, Forbid, RunOff, contradicted, unless, forbids, ends, hasNext, runsOff, findingsAt, findingsFrom, findings, nodeOf, stepsTo}
+use Rattle.verdict.specs.Verdicts.{Finding, Forbid, RunOff, contradicted, unless, forbids, ends, hasNext, runsOff, findingsAt, findingsFrom, findings, nodeOf}
 
 -- ---- every finding is at a node of the graph
 abbrev pub At : ℕ → List Finding → Type 0
@@ -101,13 +99,10 @@ module _ (p : Program) (ls : List Lemma) (g : Graph) where
   pub none-lower : (x : Finding) (fs : List Finding) → findings p ls g ≡ x ∷ fs → (k : ℕ) → k < nodeOf x → findingsAt p ls g k ≡ []
   none-lower x fs e k lt = none-before 0 (count g) x fs e k (omega arith) lt
 
-  -- ---- the path to a node
+  -- ---- the graph that the exploration ends with
   module _ (e : graph p ls ≡ Done g) where
     known : Whole (answer (start p ls)) (next p ls) (length (p .actions)) mostNodes g
     known = whole (answer (start p ls)) (next p ls) (length (p .actions)) mostNodes g e
 
     pub graph-few : count g ≤ mostNodes
     graph-few = known .within
-
-    pub steps-walk : (k : ℕ) → k < count g → Walk (length (p .actions)) g 0 (stepsTo g k) k
-    steps-walk k h = path-in-graph (answer (start p ls)) (next p ls) (length (p .actions)) mostNodes g known mostNodes k (omega (arith, graph-few, h)) h

@@ -131,7 +131,7 @@ fn put_shown(out: &mut [u8], shown: Shown, path: &[u32]) -> usize
 
 // The lines of any bytes, at the front of `lines`; answers how many bytes they have. Where `lines` has under 4,096 bytes it is left, and the
 // answer is 0. Of more than 65,536 bytes, those behind the first 65,537 change nothing. If what was written begins with SAFE, the logic in the input is safe;
-// if it ends with a PATH line, no walk in the graph to a node with a finding has fewer steps.
+// if it ends with a PATH line, no walk in the graph to a node with a finding has fewer steps, and every run with fewer moves is safe.
 pub fn report(input: &[u8], lines: &mut [u8]) -> usize
     ensures lines { λ r. ⌜ (now (lines .exit)
         ≡ written (now (input .entry)) (now (lines .entry)) ++ drop (length (written (now (input .entry)) (now (lines .entry)))) (now (lines .entry)))

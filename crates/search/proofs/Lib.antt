@@ -5,5 +5,4 @@ pub mod Numbered
 pub mod Distances
 pub mod Sound
 pub mod Theorem
-pub mod Paths
 pub mod Steps
