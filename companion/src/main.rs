@@ -3,21 +3,11 @@
 //!
 //! The exit status: 0 safe; 1 findings; 3 the show is refused, cut or too long; 2 trouble, and there is no answer.
 
-mod curves;
-mod drawing;
+mod draw;
 mod file;
 mod findings;
-mod geometry;
-mod graph;
-mod grid;
-mod layout;
 mod output;
-mod plan;
-mod rim;
-mod routes;
-mod search;
-mod svg;
-mod titles;
+mod show;
 mod verdict;
 
 use file::Source;
@@ -43,7 +33,7 @@ const COMMANDS: &[Command] = &[
     Command {
         name: "draw",
         prints: "the graph as an SVG, with the path to the first finding",
-        run: drawing::run,
+        run: draw::run,
     },
 ];
 

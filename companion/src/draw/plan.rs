@@ -1,10 +1,10 @@
 //! Where everything of a drawing goes: as large as it has to be.
-use crate::curves::Arrow;
-use crate::geometry::{point, Frame, Point};
-use crate::graph::{Edge, Graph, Node};
-use crate::layout::Task;
-use crate::routes::{routed, Faults, Wanted};
-use crate::{svg, titles};
+use crate::draw::curves::Arrow;
+use crate::draw::geometry::{point, Frame, Point};
+use crate::draw::graph::{Edge, Graph, Node};
+use crate::draw::layout::Task;
+use crate::draw::routes::{routed, Faults, Wanted};
+use crate::draw::{svg, titles};
 use std::collections::BTreeSet;
 
 /// With more nodes than that the arrows have no labels.

@@ -1,5 +1,5 @@
 //! What lies near a place, found without looking at everything.
-use crate::geometry::{point, Frame, Point};
+use crate::draw::geometry::{point, Frame, Point};
 
 /// Things in the cells of a square around the origin; what is outside of it counts for the outermost cells.
 pub struct Grid<T> {

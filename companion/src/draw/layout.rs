@@ -1,6 +1,6 @@
 //! Where the boxes of the nodes go: node 0 in the middle, the others on rings around it, so that no two overlap.
-use crate::geometry::{direction, point, Frame, Point};
-use crate::rim::{mean, spread, Rim};
+use crate::draw::geometry::{direction, point, Frame, Point};
+use crate::draw::rim::{mean, spread, Rim};
 use std::collections::BTreeSet;
 
 /// What is to be placed.

@@ -1,5 +1,5 @@
 //! The words in a drawing: what stands in boxes, at arrows, and in tooltips.
-use crate::graph::{Edge, Literal, Node};
+use crate::draw::graph::{Edge, Literal, Node};
 
 /// A node's literals in lines: `p0 ¬p1`.
 pub fn literals(literals: &[Literal]) -> Vec<String> {

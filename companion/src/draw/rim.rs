@@ -1,5 +1,5 @@
 //! The way around a ring, and where its nodes are along it.
-use crate::geometry::{direction, Point};
+use crate::draw::geometry::{direction, Point};
 
 /// How much room boxes take along a ring differs: above each other at its sides, beside each other at its top. What part of the
 /// way around lies before an angle, if boxes stand as densely as they can everywhere?
@@ -75,7 +75,7 @@ pub fn spread(nodes: &[usize], wishes: &[Option<f64>]) -> Vec<(usize, f64)> {
 #[cfg(test)]
 mod tests {
     use super::*;
-    use crate::geometry::point;
+    use crate::draw::geometry::point;
 
     #[test]
     fn angles_and_parts_go_there_and_back() {

@@ -1,12 +1,23 @@
 //! The command `draw`: the abstract state graph of a show as an SVG.
-use crate::curves::Arrow;
-use crate::geometry::{point, Frame, Point};
-use crate::graph::{Edge, Graph, Node};
+mod curves;
+mod geometry;
+mod graph;
+mod grid;
+mod layout;
+mod plan;
+mod rim;
+mod routes;
+mod search;
+mod svg;
+mod titles;
+
 use crate::output::{Said, Status};
-use crate::plan::{extent, plan, Plan, LABEL, LABELLED, LABEL_LINE, LITERAL, LITERAL_LINE};
-use crate::svg::{self, number};
-use crate::titles;
 use crate::verdict::{self, path, presses, safe, sentence, Answer, Judged};
+use curves::Arrow;
+use geometry::{point, Frame, Point};
+use graph::{Edge, Graph, Node};
+use plan::{extent, plan, Plan, LABEL, LABELLED, LABEL_LINE, LITERAL, LITERAL_LINE};
+use svg::number;
 
 /// The sizes of letters: of a node's number, the caption and the legend.
 const NUMBER: f64 = 13.0;
@@ -264,7 +275,7 @@ mod tests {
 
     #[test]
     fn of_house() {
-        let (house, status) = drawn(include_bytes!("../../shows/house.words"));
+        let (house, status) = drawn(include_bytes!("../../../shows/house.words"));
         assert_eq!(status, Status::Good);
         assert!(house.starts_with("<svg ") && house.ends_with("</svg>"));
         assert_eq!(count(&house, r#"class="node""#), 3);
@@ -273,12 +284,12 @@ mod tests {
         assert_eq!(count(&house, r#"class="ring""#), 1);
         assert_eq!(count(&house, ">safe: nodes 3, edges 10<"), 1);
         assert_eq!(count(&house, PATH) + count(&house, FINDING), 0);
-        assert_eq!(house, drawn(include_bytes!("../../shows/house.words")).0);
+        assert_eq!(house, drawn(include_bytes!("../../../shows/house.words")).0);
     }
 
     #[test]
     fn of_a_finding() {
-        let (bump, status) = drawn(include_bytes!("../../shows/bump.words"));
+        let (bump, status) = drawn(include_bytes!("../../../shows/bump.words"));
         assert_eq!(status, Status::Findings);
         assert_eq!(count(&bump, &format!(r#"stroke="{PATH}""#)), 2);
         assert_eq!(count(&bump, &format!(r#"fill="{FINDING}""#)), 2);
@@ -287,7 +298,7 @@ mod tests {
     /// 512 nodes, one on each ring, and no labels.
     #[test]
     fn of_many_nodes() {
-        let (counter, status) = drawn(include_bytes!("../../shows/counter.words"));
+        let (counter, status) = drawn(include_bytes!("../../../shows/counter.words"));
         assert_eq!(status, Status::Findings);
         assert_eq!(count(&counter, r#"class="node""#), 512);
         assert_eq!(count(&counter, r#"class="ring""#), 511);

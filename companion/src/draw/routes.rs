@@ -1,7 +1,7 @@
 //! The arrows of a drawing: of the curves and the places for labels that are tried the best ones.
-use crate::curves::{around, between, labelled, Arrow};
-use crate::geometry::{Curve, Frame, Point};
-use crate::grid::{dot, Grid};
+use crate::draw::curves::{around, between, labelled, Arrow};
+use crate::draw::geometry::{Curve, Frame, Point};
+use crate::draw::grid::{dot, Grid};
 use std::collections::BTreeSet;
 
 /// An arrow to be drawn: the nodes that it leads from and to, and half of its label's box, if it has a label.
@@ -311,7 +311,7 @@ impl Router<'_> {
 #[cfg(test)]
 mod tests {
     use super::*;
-    use crate::geometry::{direction, point};
+    use crate::draw::geometry::{direction, point};
 
     /// Boxes on a ring around one in the middle, with arrows from each to each and at each.
     fn wheel(nodes: usize, radius: f64) -> (Vec<Frame>, Vec<Wanted>) {

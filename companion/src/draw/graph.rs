@@ -125,7 +125,7 @@ mod tests {
     /// House, as the table in docs/FORMAT.md has it.
     #[test]
     fn of_house() {
-        let house = graph(include_bytes!("../../shows/house.words"));
+        let house = graph(include_bytes!("../../../shows/house.words"));
         let node = |ring, first, second| Node {
             ring,
             literals: vec![
@@ -167,7 +167,8 @@ mod tests {
     /// Records that no graph has: a ring without nodes, a second node in the middle, a node of which there is no record.
     #[test]
     fn of_another_list() {
-        let Ok(Answer::Judged(mut show)) = judge(include_bytes!("../../shows/house.words")) else {
+        let Ok(Answer::Judged(mut show)) = judge(include_bytes!("../../../shows/house.words"))
+        else {
             panic!();
         };
         let third = HEADER_WORDS + show.actions + 2;
@@ -184,12 +185,12 @@ mod tests {
     /// Bump may run off at node 1, to which action 0 leads.
     #[test]
     fn of_a_finding() {
-        let bump = graph(include_bytes!("../../shows/bump.words"));
+        let bump = graph(include_bytes!("../../../shows/bump.words"));
         assert_eq!(bump.finding, Some(1));
         assert_eq!(bump.path, BTreeSet::from([(0, 1)]));
         assert!(bump.on_path(0) && bump.on_path(1));
         // Fade without lemmas: at node 0.
-        let fade = graph(&include_bytes!("../../shows/fade.words")[..64]);
+        let fade = graph(&include_bytes!("../../../shows/fade.words")[..64]);
         assert_eq!(fade.finding, Some(0));
         assert!(fade.path.is_empty() && fade.on_path(0));
     }

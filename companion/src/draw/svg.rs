@@ -1,5 +1,5 @@
 //! Elements of an SVG.
-use crate::geometry::{Curve, Frame, Point, ROUND};
+use crate::draw::geometry::{Curve, Frame, Point, ROUND};
 
 /// A coordinate, with one decimal at the most.
 pub fn number(value: f64) -> String {
@@ -76,7 +76,7 @@ pub fn arrow(curve: &Curve, head: f64, colour: &str) -> String {
 #[cfg(test)]
 mod tests {
     use super::*;
-    use crate::geometry::point;
+    use crate::draw::geometry::point;
 
     #[test]
     fn numbers_have_one_decimal() {

@@ -1,5 +1,5 @@
 //! The curves that are tried for an arrow, and the places for its label.
-use crate::geometry::{point, Curve, Frame, Point};
+use crate::draw::geometry::{point, Curve, Frame, Point};
 
 #[derive(Clone, Copy)]
 pub struct Arrow {

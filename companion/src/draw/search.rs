@@ -1,6 +1,6 @@
 //! Looking for better places: the angles of the nodes are changed, one way or another, and what is better is kept.
-use crate::geometry::{cross, point, Frame, Point};
-use crate::layout::{Places, Task};
+use crate::draw::geometry::{cross, point, Frame, Point};
+use crate::draw::layout::{Places, Task};
 
 /// How many steps of work looking for better places may take.
 const WORK: usize = 100_000_000;

@@ -1,0 +1,21 @@
+//! Names for variables, predicates and actions. Words have none: names live in the text of a show only.
+use super::model::Logic;
+
+#[derive(Clone, Debug, PartialEq, Eq)]
+pub struct Names {
+    pub variables: Vec<String>,
+    pub predicates: Vec<String>,
+    pub actions: Vec<String>,
+}
+
+impl Names {
+    /// The names of a logic that comes without: `v0`, `p0`, `a0` and so on.
+    pub fn numbered(logic: &Logic) -> Names {
+        let all = |letter: char, count: usize| (0..count).map(|k| format!("{letter}{k}")).collect();
+        Names {
+            variables: all('v', logic.ranges.len()),
+            predicates: all('p', logic.predicates.len()),
+            actions: all('a', logic.actions.len()),
+        }
+    }
+}

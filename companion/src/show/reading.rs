@@ -1,0 +1,431 @@
+//! The words of a show as plain values, or the first word at fault. The refusals are those that Check and Judge are proved to give;
+//! what is said beside their number and place is the companion's own.
+use super::fault::{stray, thousands, Fault, List, Place, Rule};
+use super::model::*;
+use super::rows::{Range, Row, VARIABLES};
+use bulanevior::raw::*;
+use bulanevior::{kind, payload, MOST_ACTIONS};
+
+/// A field of a word, signed, in two's complement.
+fn signed(word: u32, high: u32, low: u32) -> i64 {
+    let width = high - low + 1;
+    i64::from(((word << (31 - high)) as i32) >> (32 - width))
+}
+
+/// A field of a word that is a number.
+fn field(word: u32, high: u32, low: u32) -> usize {
+    (word >> low & ((2u32 << (high - low)).wrapping_sub(1))) as usize
+}
+
+/// A list of words that is read from its front.
+struct Reader<'a> {
+    words: &'a [u32],
+    at: usize,
+    list: List,
+    /// The words of the file before this list.
+    before: usize,
+    /// The row that may go on with a TERM.
+    open: Option<Place>,
+}
+
+impl Reader<'_> {
+    fn next(&self) -> Option<u32> {
+        self.words.get(self.at).copied()
+    }
+
+    /// Is the next word of this kind?
+    fn is(&self, wanted: u32) -> bool {
+        self.next().is_some_and(|word| kind(word) == wanted)
+    }
+
+    fn fault(&self, number: u32, rule: Rule) -> Fault {
+        Fault {
+            number,
+            list: self.list,
+            at: self.at,
+            file_at: self.before + self.at,
+            word: self.next(),
+            rule,
+        }
+    }
+
+    /// The next word is of another kind, or there is none.
+    fn due(&self, what: impl std::fmt::Display) -> Fault {
+        let more = match self.open {
+            Some(row) => format!("a TERM of {row} or "),
+            None => String::new(),
+        };
+        let number = match self.list {
+            List::Logic => BNV_REFUSED_WORD,
+            List::Lemmas => BNV_REFUSED_LEMMA,
+        };
+        self.fault(number, Rule::Due(format!("{more}{what}")))
+    }
+
+    fn wrong(&self, number: u32, place: Place, why: impl Into<String>) -> Fault {
+        self.fault(number, Rule::Wrong(place, why.into()))
+    }
+
+    /// The next word, which has to be of this kind; it is taken only by `take`.
+    fn see(&self, wanted: u32, what: impl std::fmt::Display) -> Result<u32, Fault> {
+        match self.next() {
+            Some(word) if kind(word) == wanted => Ok(word),
+            _ => Err(self.due(what)),
+        }
+    }
+
+    fn take(&mut self) {
+        self.at += 1;
+        self.open = None;
+    }
+
+    /// Unnamed bits have to be zero.
+    fn clean(&self, word: u32, unnamed: u32, number: u32, place: Place) -> Result<(), Fault> {
+        match stray(word, unnamed) {
+            Some(why) => Err(self.wrong(number, place, why)),
+            None => Ok(()),
+        }
+    }
+
+    /// A number has to be in these limits.
+    fn within(&self, what: &str, number: i64, limit: i64, place: Place) -> Result<(), Fault> {
+        if (-limit..=limit).contains(&number) {
+            return Ok(());
+        }
+        let (number, limit) = (thousands(number), thousands(limit));
+        let why = format!("{what} {number}, allowed are -{limit} to {limit}");
+        Err(self.wrong(BNV_REFUSED_VALUE, place, why))
+    }
+
+    /// A variable has to be one of the logic and above the one before it.
+    fn rising(
+        &self,
+        variable: usize,
+        least: usize,
+        variables: usize,
+        place: Place,
+    ) -> Result<(), Fault> {
+        let why = if variable >= variables {
+            format!("variable {variable}, and the logic has {variables}, counted from 0")
+        } else if variable < least {
+            let before = least - 1;
+            format!("variable {variable} stands behind variable {before}, and they have to rise")
+        } else {
+            return Ok(());
+        };
+        Err(self.wrong(BNV_REFUSED_VALUE, place, why))
+    }
+
+    /// A ROW and its TERMs.
+    fn row(&mut self, variables: usize, place: Place) -> Result<Row, Fault> {
+        let word = self.see(BNV_ROW, format!("the ROW of {place}"))?;
+        let constant = signed(word, 27, 0);
+        self.within("constant", constant, CONSTANT, place)?;
+        let mut row = Row::constant(constant);
+        let mut least = 0;
+        self.take();
+        while self.is(BNV_TERM) {
+            let (variable, coefficient) = self.term(least, variables, place)?;
+            row.coefficients[variable] = coefficient;
+            least = variable + 1;
+            self.take();
+        }
+        self.open = Some(place);
+        Ok(row)
+    }
+
+    fn term(&self, least: usize, variables: usize, place: Place) -> Result<(usize, i64), Fault> {
+        let word = self.words[self.at];
+        self.clean(word, 0x00FF_0000, BNV_REFUSED_WORD, place)?;
+        let (variable, coefficient) = (field(word, 27, 24), signed(word, 15, 0));
+        self.rising(variable, least, variables, place)?;
+        self.within("coefficient", coefficient, COEFFICIENT, place)?;
+        if coefficient == 0 {
+            let why = "coefficient 0: a variable that does not count has no TERM";
+            return Err(self.wrong(BNV_REFUSED_VALUE, place, why));
+        }
+        Ok((variable, coefficient))
+    }
+
+    /// A count of rows, and the rows.
+    fn rows(
+        &mut self,
+        (wanted, what): (u32, &str),
+        most: usize,
+        variables: usize,
+        (all, each): (Place, fn(usize) -> Place),
+    ) -> Result<Vec<Row>, Fault> {
+        let count = field(self.see(wanted, what)?, 27, 0);
+        if count > most {
+            let why = format!(
+                "it counts {}, allowed are 0 to {most}",
+                thousands(count as i64)
+            );
+            return Err(self.wrong(BNV_REFUSED_LIMIT, all, why));
+        }
+        self.take();
+        (0..count).map(|k| self.row(variables, each(k))).collect()
+    }
+
+    fn ranges(&mut self) -> Result<Vec<Range>, Fault> {
+        let mut ranges = Vec::new();
+        while ranges.is_empty() || self.is(BNV_VAR) {
+            let place = Place::Variable(ranges.len());
+            let word = self.see(BNV_VAR, format!("the VAR of {place}"))?;
+            if ranges.len() == VARIABLES {
+                let why = format!("one too many, allowed are {VARIABLES}");
+                return Err(self.wrong(BNV_REFUSED_LIMIT, place, why));
+            }
+            let (low, high) = (signed(word, 27, 14), signed(word, 13, 0));
+            if low > high {
+                let (low, high) = (thousands(low), thousands(high));
+                let why = format!("the low end {low} is above the high end {high}");
+                return Err(self.wrong(BNV_REFUSED_VALUE, place, why));
+            }
+            ranges.push(Range { low, high });
+            self.take();
+        }
+        Ok(ranges)
+    }
+
+    /// The counts of guard rows and assignments in an ACTION word.
+    fn counts(&self, action: usize) -> Result<(usize, usize), Fault> {
+        let place = Place::Action(action);
+        let word = self.words[self.at];
+        self.clean(word, 0x0FFF_FF00, BNV_REFUSED_WORD, place)?;
+        let limit = |why| Err(self.wrong(BNV_REFUSED_LIMIT, place, why));
+        if action == MOST_ACTIONS {
+            return limit(format!("one too many, allowed are {MOST_ACTIONS}"));
+        }
+        let (guards, sets) = (field(word, 7, 4), field(word, 3, 0));
+        for (count, what) in [(guards, "guard rows"), (sets, "assignments")] {
+            if count > ROWS {
+                return limit(format!("it counts {count} {what}, allowed are 0 to {ROWS}"));
+            }
+        }
+        Ok((guards, sets))
+    }
+
+    fn action(&mut self, action: usize, variables: usize) -> Result<Action, Fault> {
+        let (guards, sets) = self.counts(action)?;
+        self.take();
+        let guard = |row| Place::Guard { action, row };
+        let guards = (0..guards).map(|k| self.row(variables, guard(k)));
+        let mut found = Action {
+            guards: guards.collect::<Result<_, _>>()?,
+            sets: Vec::new(),
+        };
+        for number in 0..sets {
+            let place = Place::Assignment { action, number };
+            let least = found.sets.last().map_or(0, |&(variable, _)| variable + 1);
+            let word = self.see(BNV_SET, format!("the SET of {place}"))?;
+            let variable = field(word, 27, 0);
+            self.rising(variable, least, variables, place)?;
+            self.take();
+            found.sets.push((variable, self.row(variables, place)?));
+        }
+        Ok(found)
+    }
+
+    /// The literals of a SETS word.
+    fn literals(&self, predicates: usize, number: u32, place: Place) -> Result<Literals, Fault> {
+        let literals = Literals::of(payload(self.words[self.at]));
+        let both = literals.holds & literals.fails;
+        let why = match literals.each().find(|&(p, _)| p >= predicates) {
+            Some((p, _)) => {
+                format!("predicate {p}, and the logic has {predicates}, counted from 0")
+            }
+            None if both != 0 => {
+                let p = both.trailing_zeros();
+                format!("predicate {p} is on both sides: it cannot hold and fail")
+            }
+            None => return Ok(literals),
+        };
+        Err(self.wrong(number, place, why))
+    }
+
+    fn forbidden(&mut self, predicates: usize) -> Result<Vec<Literals>, Fault> {
+        let mut forbidden = Vec::new();
+        while self.is(BNV_SETS) {
+            let place = Place::Combination(forbidden.len());
+            if forbidden.len() == ROWS {
+                let why = format!("one too many, allowed are {ROWS}");
+                return Err(self.wrong(BNV_REFUSED_LIMIT, place, why));
+            }
+            forbidden.push(self.literals(predicates, BNV_REFUSED_VALUE, place)?);
+            self.take();
+        }
+        Ok(forbidden)
+    }
+
+    /// END, with nothing in it and nothing behind it.
+    fn end(&mut self, due: &str) -> Result<(), Fault> {
+        let word = self.see(BNV_END, due)?;
+        self.clean(word, 0x0FFF_FFFF, BNV_REFUSED_WORD, Place::Logic)?;
+        self.take();
+        match self.next() {
+            Some(_) => Err(self.due("nothing, behind END,")),
+            None => Ok(()),
+        }
+    }
+
+    fn logic(&mut self) -> Result<Logic, Fault> {
+        let ranges = self.ranges()?;
+        let variables = ranges.len();
+        let init = match variables {
+            VARIABLES => "INIT",
+            _ => "a further VAR or INIT",
+        };
+        let starts = (Place::StartRows, Place::StartRow as fn(usize) -> Place);
+        let start = self.rows((BNV_INIT, init), ROWS, variables, starts)?;
+        let all = (Place::Predicates, Place::Predicate as fn(usize) -> Place);
+        let predicates = self.rows((BNV_PRED, "PRED"), PREDICATES, variables, all)?;
+        let mut actions = Vec::new();
+        while self.is(BNV_ACTION) {
+            actions.push(self.action(actions.len(), variables)?);
+        }
+        let forbidden = self.forbidden(predicates.len())?;
+        let due = match forbidden.is_empty() {
+            true => "ACTION, SETS or END",
+            false => "SETS or END",
+        };
+        self.end(due)?;
+        Ok(Logic {
+            ranges,
+            start,
+            predicates,
+            actions,
+            forbidden,
+        })
+    }
+
+    /// What a LEMMA word says, or what is wrong with it.
+    fn heading(&self, word: u32, logic: &Logic) -> Result<(Source, Goal), String> {
+        if let Some(why) = stray(word, 0x0000_FF00) {
+            return Err(why);
+        }
+        let (source, goal, index) = (field(word, 27, 20), field(word, 19, 16), field(word, 7, 0));
+        let actions = logic.actions.len();
+        let source = match source {
+            255 => Source::Start,
+            k if k < actions => Source::Action(k),
+            k => {
+                let known = format!("and the logic has {actions} actions, counted from 0");
+                return Err(format!("source {k} is neither an action, {known}, nor 255"));
+            }
+        };
+        let goal = match goal {
+            0 => Goal::Never,
+            1 => Goal::Holds(index),
+            2 => Goal::Fails(index),
+            3 => Goal::Low(index),
+            4 => Goal::High(index),
+            n => return Err(format!("goal {n}, allowed are 0 to 4")),
+        };
+        let (_, sets) = logic.source(source);
+        let known = logic.predicates.len();
+        match goal {
+            Goal::Never if index != 0 => {
+                Err(format!("goal 0 with index {index}, which has to be 0"))
+            }
+            Goal::Holds(p) | Goal::Fails(p) if p >= known => Err(format!(
+                "predicate {p}, and the logic has {known}, counted from 0"
+            )),
+            Goal::Low(_) | Goal::High(_) if source == Source::Start => {
+                Err("goals 3 and 4 speak of an action, and the source is the start".into())
+            }
+            Goal::Low(v) | Goal::High(v) if sets.iter().all(|&(set, _)| set != v) => {
+                Err(format!("its source does not set variable {v}"))
+            }
+            _ => Ok((source, goal)),
+        }
+    }
+
+    fn lemma(&mut self, number: usize, logic: &Logic) -> Result<Lemma, Fault> {
+        let place = Place::Lemma(number);
+        let word = self.see(BNV_LEMMA, format!("the LEMMA of {place} or the end"))?;
+        if number == LEMMAS {
+            let why = format!("one too many, allowed are {LEMMAS}");
+            return Err(self.wrong(BNV_REFUSED_LEMMAS, place, why));
+        }
+        let heading = self.heading(word, logic);
+        let (source, goal) = heading.map_err(|why| self.wrong(BNV_REFUSED_LEMMA, place, why))?;
+        self.take();
+        self.see(BNV_SETS, format!("the SETS of {place}"))?;
+        let premises = self.literals(logic.predicates.len(), BNV_REFUSED_LEMMA, place)?;
+        if source == Source::Start && !premises.is_empty() {
+            let why = "a lemma of the start has no premises";
+            return Err(self.wrong(BNV_REFUSED_LEMMA, place, why));
+        }
+        self.take();
+        let multipliers = multiplied(number, logic, source, goal, premises)
+            .into_iter()
+            .map(|row| self.multiplier(row))
+            .collect::<Result<_, _>>()?;
+        Ok(Lemma {
+            source,
+            goal,
+            premises,
+            multipliers,
+        })
+    }
+
+    fn multiplier(&mut self, row: Place) -> Result<i64, Fault> {
+        let word = self.see(BNV_MULT, format!("the MULT of {row}"))?;
+        let multiplier = i64::from(payload(word));
+        if multiplier > MULTIPLIER {
+            let (found, most) = (thousands(multiplier), thousands(MULTIPLIER));
+            let why = format!("multiplier {found}, allowed are 0 to {most}");
+            return Err(self.wrong(BNV_REFUSED_LEMMA, row, why));
+        }
+        self.take();
+        Ok(multiplier)
+    }
+}
+
+/// The rows that a lemma multiplies, in their order.
+fn multiplied(
+    lemma: usize,
+    logic: &Logic,
+    source: Source,
+    goal: Goal,
+    premises: Literals,
+) -> Vec<Place> {
+    let negated = (goal != Goal::Never).then_some(Place::NegatedGoal { lemma });
+    let premise = |(predicate, _)| Place::Premise { lemma, predicate };
+    let rows = (0..logic.source(source).0.len()).map(|row| Place::SourceRow { lemma, row });
+    let goal = negated.into_iter().chain(premises.each().map(premise));
+    goal.chain(rows).collect()
+}
+
+/// A logic, or the first word at fault.
+pub fn logic(words: &[u32]) -> Result<Logic, Fault> {
+    Reader {
+        words,
+        at: 0,
+        list: List::Logic,
+        before: 0,
+        open: None,
+    }
+    .logic()
+}
+
+/// A logic and its lemmas, or the first word at fault.
+pub fn show(words: &[u32], lemmas: &[u32]) -> Result<Show, Fault> {
+    let logic = logic(words)?;
+    let mut reader = Reader {
+        words: lemmas,
+        at: 0,
+        list: List::Lemmas,
+        before: words.len(),
+        open: None,
+    };
+    let mut found = Vec::new();
+    while reader.at < lemmas.len() {
+        found.push(reader.lemma(found.len(), &logic)?);
+    }
+    Ok(Show {
+        logic,
+        lemmas: found,
+    })
+}
