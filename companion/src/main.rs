@@ -8,6 +8,7 @@ mod file;
 mod findings;
 mod output;
 mod show;
+mod text;
 mod verdict;
 
 use file::Source;
