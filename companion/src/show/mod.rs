@@ -14,3 +14,5 @@ pub mod model;
 pub mod names;
 pub mod reading;
 pub mod rows;
+#[cfg(test)]
+mod tests;
