@@ -8,7 +8,7 @@ use std::collections::{BTreeMap, BTreeSet};
 pub fn run(bytes: &[u8]) -> Result<Said, String> {
     match verdict::judge(bytes)? {
         Answer::Judged(show) => told(show),
-        Answer::Refused(why) => Ok(Said::line(why, Status::Refused)),
+        Answer::Refused(why) => Ok(Said::line(why.sentence, Status::Refused)),
     }
 }
 

@@ -13,8 +13,14 @@ pub struct Judged {
 
 pub enum Answer {
     Judged(Judged),
-    /// In a sentence why the show is refused, cut or too long.
-    Refused(String),
+    Refused(Refused),
+}
+
+/// Why a show is refused, cut or too long.
+pub struct Refused {
+    pub sentence: String,
+    /// The refusal, with the words of logic and lemmas; None where there are no whole words, or too many.
+    pub refusal: Option<(Refusal, Vec<u32>, Vec<u32>)>,
 }
 
 /// What the proved calls answer for the bytes of a show file, or the trouble.
@@ -32,9 +38,15 @@ pub fn judge(bytes: &[u8]) -> Result<Answer, String> {
                 graph,
             })),
             Err(why @ Refusal::Mismatch(_)) => Err(why.to_string()),
-            Err(why) => Ok(Answer::Refused(format!("refused: {why}"))),
+            Err(why) => Ok(Answer::Refused(Refused {
+                sentence: format!("refused: {why}"),
+                refusal: Some((why, show.logic.to_vec(), show.lemmas.to_vec())),
+            })),
         },
-        Err(why @ (NoShow::TooLong | NoShow::OddBytes)) => Ok(Answer::Refused(why.to_string())),
+        Err(why @ (NoShow::TooLong | NoShow::OddBytes)) => Ok(Answer::Refused(Refused {
+            sentence: why.to_string(),
+            refusal: None,
+        })),
         Err(why) => Err(why.to_string()),
     }
 }

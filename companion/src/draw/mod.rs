@@ -44,7 +44,7 @@ pub fn run(bytes: &[u8]) -> Result<Said, String> {
             let lines = picture(&graph, &caption(&show)?);
             Ok(Said::lines(lines.into_iter(), status))
         }
-        Answer::Refused(why) => Ok(Said::aside(why, Status::Refused)),
+        Answer::Refused(why) => Ok(Said::aside(why.sentence, Status::Refused)),
     }
 }
 

@@ -49,6 +49,24 @@ impl Row {
         sum
     }
 
+    /// The same, unless a number is too large.
+    pub fn plus_checked(&self, times: i64, other: &Row) -> Option<Row> {
+        let mut sum = *self;
+        for (a, b) in sum.coefficients.iter_mut().zip(other.coefficients) {
+            *a = a.checked_add(times.checked_mul(b)?)?;
+        }
+        sum.constant = sum.constant.checked_add(times.checked_mul(other.constant)?)?;
+        Some(sum)
+    }
+
+    /// The row with the row of a value put in for each variable, unless a number is too large.
+    pub fn through(&self, values: &[Row]) -> Option<Row> {
+        self.terms()
+            .try_fold(Row::constant(self.constant), |sum, (variable, times)| {
+                sum.plus_checked(times, &values[variable])
+            })
+    }
+
     /// A row that holds exactly where this one fails: minus the row, minus 1.
     pub fn negated(&self) -> Row {
         Row::constant(-1).plus(-1, self)
