@@ -47,7 +47,7 @@ fn starts(logic: &Logic) -> Vec<State> {
 }
 
 /// The state behind an action; `Err` where it runs off, None where it is not enabled.
-fn step(logic: &Logic, action: &Action, state: &State) -> Option<Result<State, ()>> {
+pub fn step(logic: &Logic, action: &Action, state: &State) -> Option<Result<State, ()>> {
     if action.guards.iter().any(|row| row.value(state) < 0) {
         return None;
     }

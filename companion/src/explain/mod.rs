@@ -4,6 +4,7 @@
 //! |---|---|
 //! | `refusal` | the word at fault, and the rule that it breaks |
 //! | `way` | the presses that lead to a finding, with guards and assignments |
+//! | `missing` | a lemma that would rule a finding out |
 //! | `walk` | what a start state has to meet to walk them to the finding |
 //! | `hunt` | where no state walks them: other presses that go wrong |
 //! | `replay` | presses by the proved Step, from a start state |
@@ -13,12 +14,14 @@
 //! itself stands under a line that says so.
 
 mod hunt;
+mod missing;
 mod refusal;
 mod replay;
 mod unaccepted;
 mod walk;
 mod way;
 
+use crate::findings;
 use crate::input::Input;
 use crate::output::{Said, Status};
 use crate::show::model::Show;
@@ -26,6 +29,9 @@ use crate::show::names::Names;
 use crate::show::reading;
 use crate::verdict::{self, mismatch, path, presses, safe, sentence, Answer, Judged, Step};
 use bulanevior::Finding;
+
+/// The most presses that are told one by one; of more, the first and the last of them.
+const TOLD: usize = 24;
 
 /// Over what the companion works out itself.
 const OWN: &str = "worked out by the companion, not proved:";
@@ -101,9 +107,37 @@ fn safe_lines(told: &Told) -> Vec<String> {
 
 fn finding_lines(told: &Told, finding: Finding) -> Result<Vec<String>, String> {
     let path: Vec<Step> = path(&told.judged.graph, told.judged.actions, finding.node())?;
-    let mut lines = vec![sentence(finding, &presses(&path)), String::new()];
+    let mut lines = vec![sentence(finding, &presses(&path)), count(told)?];
+    if !told.named {
+        let stands = "v0 stands for variable 0, p0 for predicate 0, a0 for action 0, and so on";
+        lines.push(stands.to_string());
+    }
+    lines.push(String::new());
     lines.extend(way::lines(told, finding, &path)?);
     lines.push(String::new());
-    lines.extend(replay::lines(told, finding, &path)?);
+    let (replay, real) = replay::lines(told, finding, &path)?;
+    lines.extend(replay);
+    if !real {
+        lines.extend(missing::lines(told, finding, &path)?);
+    }
     Ok(lines)
+}
+
+/// How many findings there are.
+fn count(told: &Told) -> Result<String, String> {
+    Ok(match findings::all(told.judged)?.len() {
+        1 => "it is the only finding".to_string(),
+        n => format!("it is the first of {n} findings, which `bulanevior findings` lists"),
+    })
+}
+
+/// Lines with the middle of them left out where there are too many: pieces of lines, each told whole or not at all.
+fn shortened(pieces: Vec<Vec<String>>) -> Vec<String> {
+    let left_out = pieces.len().saturating_sub(TOLD);
+    let note = vec![format!("  .. {left_out} presses more ..")];
+    let (first, rest) = pieces.split_at(pieces.len().min(TOLD / 2));
+    match left_out {
+        0 => pieces.concat(),
+        _ => [&first.concat()[..], &note, &rest[left_out..].concat()].concat(),
+    }
 }

@@ -40,8 +40,12 @@ fn fault(refusal: Refusal, logic: &[u32], lemmas: &[u32]) -> Result<Option<Fault
     }
     match reading::show(logic, lemmas) {
         Err(fault) if (fault.number, fault.at) == (number, refusal.value()) => Ok(Some(fault)),
-        Err(fault) => Err(mismatch(format!("{refusal}, and the companion finds {fault}"))),
-        Ok(_) => Err(mismatch(format!("{refusal}, and the companion finds no fault"))),
+        Err(fault) => Err(mismatch(format!(
+            "{refusal}, and the companion finds {fault}"
+        ))),
+        Ok(_) => Err(mismatch(format!(
+            "{refusal}, and the companion finds no fault"
+        ))),
     }
 }
 

@@ -1,15 +1,12 @@
 //! Presses by the proved Step, from a start state that the companion finds: does a finding really happen?
 use super::hunt::{self, forbidden, Wrong};
 use super::walk::{Reach, Walk};
-use super::{Told, OWN};
+use super::{shortened, Told, OWN};
 use crate::verdict::{mismatch, Step};
-use bulanevior::{self, Finding};
+use bulanevior::{Finding, Step as Pressed};
 
-/// The most presses that are told one by one; of more, the first and the last of them.
-const TOLD: usize = 24;
-
-/// What happens to a start state on a path to a finding, and what that says of the finding.
-pub fn lines(told: &Told, finding: Finding, path: &[Step]) -> Result<Vec<String>, String> {
+/// What happens to a start state on a path to a finding, and whether something really goes wrong.
+pub fn lines(told: &Told, finding: Finding, path: &[Step]) -> Result<(Vec<String>, bool), String> {
     let logic = &told.show.logic;
     let reach = Walk::new(logic, finding, path).map_or(Reach::Unknown, |walk| walk.reach(logic));
     let stage = match reach {
@@ -19,45 +16,62 @@ pub fn lines(told: &Told, finding: Finding, path: &[Step]) -> Result<Vec<String>
                 Finding::MayForbid { combination, .. } => Wrong::Forbidden(combination),
                 Finding::MayRunOff { action, .. } => Wrong::RunsOff(action),
             };
-            return replayed(told, &start, &presses, wrong);
+            return Ok((replayed(told, &start, &presses, wrong)?, true));
         }
         Reach::Until(stage) => Some(stage),
         Reach::Unknown => None,
     };
     let mut lines = vec![OWN.to_string()];
-    lines.push(format!("  {}", unwalked(told, path, stage)));
-    lines.push(String::new());
-    match hunt::hunt(logic) {
+    lines.push(format!("  {}", unwalked(told, finding, path, stage)));
+    let fault = hunt::hunt(logic);
+    match &fault {
         Some(fault) => {
-            lines.push("but another list of presses goes wrong".to_string());
+            lines.push("  but other presses go wrong".to_string());
+            lines.push(String::new());
             lines.extend(replayed(told, &fault.start, &fault.presses, fault.wrong)?);
         }
-        None => lines.push("no presses were found that really go wrong; that is no proof that there are none".to_string()),
+        None => {
+            let none =
+                "no presses were found that really go wrong, which is no proof that there are none";
+            lines.push(format!("  {none}"));
+        }
     }
-    Ok(lines)
+    Ok((lines, fault.is_some()))
 }
 
 /// Why no start state walks the path to the finding.
-fn unwalked(told: &Told, path: &[Step], stage: Option<usize>) -> String {
+fn unwalked(told: &Told, finding: Finding, path: &[Step], stage: Option<usize>) -> String {
+    let there = match finding {
+        Finding::MayForbid { .. } => "meets the combination there",
+        Finding::MayRunOff { .. } => "runs off there",
+    };
     match stage {
-        None => "no start state was found that walks this way to its end".to_string(),
+        None => format!("no start state was found that walks this way and {there}"),
         Some(0) => "no state meets the start rows".to_string(),
         Some(k) if k <= path.len() => {
             let action = told.action(path[k - 1].action);
             format!("no start state walks this way, it is one in the graph only: none takes press {k}, {action}")
         }
-        Some(_) => "start states walk this way, but none that does so meets what was found".to_string(),
+        Some(_) if path.is_empty() => format!("no start state {there}"),
+        Some(_) => format!("start states walk this way, but none of them {there}"),
     }
 }
 
-/// One press: the line that tells it. Step has to move; at the end it may run off.
-fn pressed(told: &Told, number: usize, action: usize, state: &mut [i32]) -> Result<String, String> {
-    let does = match bulanevior::step(&told.judged.logic, action, state).map_err(mismatch)? {
-        bulanevior::Step::Moved => format!("moves to {}", told.state(state)),
-        bulanevior::Step::NotEnabled(near) => format!("is not enabled: {near}"),
-        bulanevior::Step::RunsOff(v) => format!("runs {} off its range", told.names.variables[v]),
+/// One press: the line that tells it, and what Step answers.
+fn pressed(
+    told: &Told,
+    number: usize,
+    action: usize,
+    state: &mut [i32],
+) -> Result<(String, Pressed), String> {
+    let answer = bulanevior::step(&told.judged.logic, action, state).map_err(mismatch)?;
+    let does = match answer {
+        Pressed::Moved => format!("moves to {}", told.state(state)),
+        Pressed::NotEnabled(near) => format!("is not enabled: {near}"),
+        Pressed::RunsOff(v) => format!("runs {} off its range", told.names.variables[v]),
     };
-    Ok(format!("  press {number}: {} {does}", told.action(action)))
+    let line = format!("  press {number}: {} {does}", told.action(action));
+    Ok((line, answer))
 }
 
 /// The presses from a start state, and what goes wrong behind them.
@@ -68,39 +82,37 @@ fn replayed(
     wrong: Wrong,
 ) -> Result<Vec<String>, String> {
     let mut state: Vec<i32> = start.iter().map(|&x| x as i32).collect();
-    let mut lines = vec![format!("  from the start state {}", told.state(&state))];
+    let mut lines = vec![
+        "replayed by the proved Step, from a start state that the companion found:".to_string(),
+    ];
+    lines.push(format!("  {}", told.state(&state)));
+    let mut moves = Vec::new();
     for (number, &action) in (1..).zip(presses) {
-        let line = pressed(told, number, action, &mut state)?;
-        if !line.contains(" moves to ") {
+        let (line, answer) = pressed(told, number, action, &mut state)?;
+        if answer != Pressed::Moved {
             return Err(mismatch(format!("the companion's walk:{line}")));
         }
-        lines.push(line);
+        moves.push(vec![line]);
     }
-    let last = presses.len() + 1;
-    lines.push(match wrong {
-        Wrong::Forbidden(_) => met(told, &state)?,
-        Wrong::RunsOff(action) => pressed(told, last, action, &mut state)?,
-    });
-    shorten(&mut lines);
-    lines.insert(0, "replayed by Step, which is proved:".to_string());
+    lines.extend(shortened(moves));
+    lines.push(ended(told, presses.len(), &mut state, wrong)?);
     lines.push("  it really happens".to_string());
     Ok(lines)
 }
 
-/// That a state is forbidden, which is read off its values.
-fn met(told: &Told, state: &[i32]) -> Result<String, String> {
-    let state: Vec<i64> = state.iter().map(|&x| x.into()).collect();
-    match forbidden(&told.show.logic, &state) {
-        Some(k) => Ok(format!("  this state meets forbidden combination {k}")),
-        None => Err(mismatch("the companion's walk ends in a state that is allowed")),
-    }
-}
-
-/// Leaves out the middle of many lines.
-fn shorten(lines: &mut Vec<String>) {
-    if lines.len() > TOLD {
-        let left_out = lines.len() - TOLD;
-        let note = format!("  .. {left_out} presses more ..");
-        lines.splice(TOLD / 2..TOLD / 2 + left_out, [note]);
+/// What goes wrong at the end: an action runs off, or the state is forbidden, which is read off its values.
+fn ended(told: &Told, presses: usize, state: &mut [i32], wrong: Wrong) -> Result<String, String> {
+    let values: Vec<i64> = state.iter().map(|&x| x.into()).collect();
+    match wrong {
+        Wrong::RunsOff(action) => match pressed(told, presses + 1, action, state)? {
+            (line, Pressed::RunsOff(_)) => Ok(line),
+            (line, _) => Err(mismatch(format!("the companion's walk:{line}"))),
+        },
+        Wrong::Forbidden(_) => match forbidden(&told.show.logic, &values) {
+            Some(k) => Ok(format!("  this state meets forbidden combination {k}")),
+            None => Err(mismatch(
+                "the companion's walk ends in a state that is allowed",
+            )),
+        },
     }
 }

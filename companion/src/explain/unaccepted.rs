@@ -1,7 +1,8 @@
 //! The lemmas that are not accepted, and by how much.
+use super::missing::accepted;
 use super::{Told, OWN};
 use crate::show::fault::thousands;
-use crate::show::model::{Goal, Lemma, Show};
+use crate::show::model::Lemma;
 use crate::solve::{self, Found, Refutation};
 use crate::text;
 use crate::verdict::mismatch;
@@ -31,26 +32,29 @@ pub fn lines(told: &Told) -> Result<Vec<String>, String> {
 fn told_of(told: &Told, number: usize, lemma: &Lemma) -> Result<Vec<String>, String> {
     let largest = lemma.largest(&told.show.logic);
     if largest < 0 {
-        return Err(mismatch(format!("the sum of lemma {number} stays below 0, at {largest}")));
+        let what = format!("the sum of lemma {number} stays below 0, at {largest}");
+        return Err(mismatch(what));
     }
+    let reaches = thousands(largest);
     Ok(vec![
-        format!("  lemma {number}: {}", text::lemma(lemma, told.names)),
-        format!("    its sum reaches {}, and has to stay below 0", thousands(largest)),
-        format!("    {}", mended(told, lemma)),
+        format!("  number {number}: {}", text::lemma(lemma, told.names)),
+        format!("    its sum reaches {reaches}, and has to stay below 0"),
+        format!("    {}", mended(told, lemma)?),
     ])
 }
 
 /// Multipliers that show it, or a state that makes it false.
-fn mended(told: &Told, lemma: &Lemma) -> String {
+fn mended(told: &Told, lemma: &Lemma) -> Result<String, String> {
     let logic = &told.show.logic;
     let rows = logic.rows(lemma.source, lemma.goal, lemma.premises);
-    match solve::refute(&rows, &logic.ranges) {
+    Ok(match solve::refute(&rows, &logic.ranges) {
         Refutation::Multipliers(multipliers) => {
             let better = Lemma {
                 multipliers,
                 ..lemma.clone()
             };
-            format!("accepted would be: {}", text::lemma(&better, told.names))
+            accepted(told, &better)?;
+            format!("Ask accepts: {}", text::lemma(&better, told.names))
         }
         Refutation::Unknown => "whether other multipliers show it was not found out".to_string(),
         Refutation::Feasible => match solve::state(&rows, &logic.ranges) {
@@ -58,5 +62,5 @@ fn mended(told: &Told, lemma: &Lemma) -> String {
             Found::None => "it is true, but no multipliers show it".to_string(),
             Found::Unknown => "no multipliers show it".to_string(),
         },
-    }
+    })
 }

@@ -1,5 +1,5 @@
 //! The presses that lead to a finding, each with its guard and its assignments: the path in the graph.
-use super::Told;
+use super::{shortened, Told};
 use crate::show::fault::thousands;
 use crate::show::model::{Goal, Literals, Source};
 use crate::text;
@@ -41,12 +41,18 @@ fn rows(told: &Told, action: usize) -> Vec<String> {
 pub fn lines(told: &Told, finding: Finding, path: &[Step]) -> Result<Vec<String>, String> {
     let mut lines = vec!["the way there in the graph:".to_string()];
     lines.push(format!("  at the start {}", node(told, 0)?));
-    for (number, step) in (1..).zip(path) {
-        lines.push(format!("  press {number}: {}", told.action(step.action)));
-        lines.extend(rows(told, step.action));
-        lines.push(format!("    then {}", node(told, step.to)?));
-    }
+    let presses = (1..)
+        .zip(path)
+        .map(|(number, step)| press(told, number, step));
+    lines.extend(shortened(presses.collect::<Result<_, _>>()?));
     lines.extend(reached(told, finding));
+    Ok(lines)
+}
+
+fn press(told: &Told, number: usize, step: &Step) -> Result<Vec<String>, String> {
+    let mut lines = vec![format!("  press {number}: {}", told.action(step.action))];
+    lines.extend(rows(told, step.action));
+    lines.push(format!("    then {}", node(told, step.to)?));
     Ok(lines)
 }
 
@@ -73,8 +79,14 @@ fn reached(told: &Told, finding: Finding) -> Vec<String> {
         } => {
             let range = told.show.logic.ranges[variable];
             let (goal, way) = match end {
-                End::Low => (Goal::Low(variable), format!("below {}", thousands(range.low))),
-                End::High => (Goal::High(variable), format!("above {}", thousands(range.high))),
+                End::Low => (
+                    Goal::Low(variable),
+                    format!("below {}", thousands(range.low)),
+                ),
+                End::High => (
+                    Goal::High(variable),
+                    format!("above {}", thousands(range.high)),
+                ),
             };
             let name = &told.names.variables[variable];
             let mut lines = vec![format!(
@@ -83,7 +95,9 @@ fn reached(told: &Told, finding: Finding) -> Vec<String> {
             )];
             lines.extend(rows(told, action));
             let wanted = text::lemma_head(Source::Action(action), goal, told.names);
-            lines.push(format!("    no accepted lemma that applies there shows: {wanted}"));
+            lines.push(format!(
+                "    no accepted lemma that applies there shows: {wanted}"
+            ));
             lines
         }
     }
