@@ -4,10 +4,13 @@
 //! The exit status: 0 safe; 1 findings; 3 the show is refused, cut or too long; 2 trouble, and there is no answer.
 
 mod draw;
+mod explain;
 mod file;
 mod findings;
+mod input;
 mod output;
 mod show;
+mod solve;
 mod text;
 mod verdict;
 
@@ -30,6 +33,16 @@ const COMMANDS: &[Command] = &[
         name: "findings",
         prints: "all findings, one line each, with the actions that lead there",
         run: findings::run,
+    },
+    Command {
+        name: "explain",
+        prints: "the verdict or the refusal in words",
+        run: |bytes| {
+            explain::run(&input::Input {
+                bytes: bytes.to_vec(),
+                names: None,
+            })
+        },
     },
     Command {
         name: "draw",

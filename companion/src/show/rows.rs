@@ -55,7 +55,9 @@ impl Row {
         for (a, b) in sum.coefficients.iter_mut().zip(other.coefficients) {
             *a = a.checked_add(times.checked_mul(b)?)?;
         }
-        sum.constant = sum.constant.checked_add(times.checked_mul(other.constant)?)?;
+        sum.constant = sum
+            .constant
+            .checked_add(times.checked_mul(other.constant)?)?;
         Some(sum)
     }
 
