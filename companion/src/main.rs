@@ -6,8 +6,10 @@
 mod draw;
 mod file;
 mod findings;
+mod lemmas;
 mod output;
 mod show;
+mod solve;
 mod verdict;
 
 use file::Source;
