@@ -8,6 +8,7 @@ mod explain;
 mod file;
 mod findings;
 mod input;
+mod lemmas;
 mod output;
 mod show;
 mod solve;
