@@ -17,6 +17,8 @@ mod hunt;
 mod missing;
 mod refusal;
 mod replay;
+#[cfg(test)]
+mod tests;
 mod unaccepted;
 mod walk;
 mod way;
@@ -24,6 +26,7 @@ mod way;
 use crate::findings;
 use crate::input::Input;
 use crate::output::{Said, Status};
+use crate::show::fault::thousands;
 use crate::show::model::Show;
 use crate::show::names::Names;
 use crate::show::reading;
@@ -127,7 +130,10 @@ fn finding_lines(told: &Told, finding: Finding) -> Result<Vec<String>, String> {
 fn count(told: &Told) -> Result<String, String> {
     Ok(match findings::all(told.judged)?.len() {
         1 => "it is the only finding".to_string(),
-        n => format!("it is the first of {n} findings, which `bulanevior findings` lists"),
+        n => {
+            let n = thousands(n as i64);
+            format!("it is the first of {n} findings, which `bulanevior findings` lists")
+        }
     })
 }
 

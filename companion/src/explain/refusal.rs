@@ -21,14 +21,17 @@ pub fn lines(why: &Refused, bytes: usize) -> Result<Vec<String>, String> {
 
 fn length(bytes: usize) -> String {
     let most = thousands(SHOW_BYTES as i64);
-    match bytes > SHOW_BYTES {
-        true => format!("the file has more than {most} bytes: it is no show, or two in one"),
-        false => format!(
-            "the file has {} bytes, and a word has 4: behind word {} there are {} bytes",
-            thousands(bytes as i64),
-            (bytes / 4) as i64 - 1,
-            bytes % 4
-        ),
+    match (bytes, bytes % 4) {
+        (n, _) if n > SHOW_BYTES => {
+            format!("the file has more than {most} bytes: it is no show, or two in one")
+        }
+        (1, _) => "the file has 1 byte, and a word has 4".to_string(),
+        (n @ (2 | 3), _) => format!("the file has {n} bytes, and a word has 4"),
+        (n, left) => {
+            let (count, last) = (thousands(n as i64), n / 4 - 1);
+            let (are, s) = if left == 1 { ("is", "") } else { ("are", "s") };
+            format!("the file has {count} bytes, and a word has 4: behind word {last} there {are} {left} byte{s}")
+        }
     }
 }
 
