@@ -8,15 +8,18 @@ use std::sync::atomic::{AtomicBool, Ordering};
 #[derive(Clone, Copy, Debug, PartialEq, Eq)]
 #[repr(u8)]
 pub enum Status {
-    /// The show is safe; or no show was asked about.
+    /// The show is safe; or its safety was not asked about.
     Good = 0,
     Findings = 1,
     Trouble = 2,
     Refused = 3,
 }
 
-/// What is to be printed, in lines without their newlines, and the exit status that goes with it.
+/// What is to be printed, and the exit status that goes with it.
 pub struct Said {
+    /// What goes out first, as it is.
+    pub bytes: Vec<u8>,
+    /// Without their newlines.
     pub lines: Box<dyn Iterator<Item = String>>,
     /// Is it for standard error, and standard output stays empty?
     pub aside: bool,
@@ -27,9 +30,18 @@ impl Said {
     pub fn lines(lines: impl Iterator<Item = String> + 'static, status: Status) -> Said {
         let lines = Box::new(lines);
         Said {
+            bytes: Vec::new(),
             lines,
             aside: false,
             status,
+        }
+    }
+
+    /// The bytes of a file.
+    pub fn bytes(bytes: Vec<u8>, status: Status) -> Said {
+        Said {
+            bytes,
+            ..Said::lines(std::iter::empty(), status)
         }
     }
 
@@ -56,7 +68,7 @@ pub fn print(said: Said) -> Result<Status, String> {
         said.lines.for_each(|line| mention(&line));
         return Ok(said.status);
     }
-    match write(said.lines) {
+    match write(said.bytes, said.lines) {
         Ok(()) => Ok(said.status),
         Err(e) => Err(format!("cannot write to standard output: {e}")),
     }
@@ -64,18 +76,18 @@ pub fn print(said: Said) -> Result<Status, String> {
 
 /// Through a file: the runtime's own standard output takes one that is not open for writing for a success. Behind a write that
 /// failed there is no other.
-fn write(lines: impl Iterator<Item = String>) -> std::io::Result<()> {
+fn write(bytes: Vec<u8>, lines: impl Iterator<Item = String>) -> std::io::Result<()> {
     let mut out = File::from(std::io::stdout().as_fd().try_clone_to_owned()?);
-    let mut piece = String::new();
+    let mut piece = bytes;
     for line in lines {
-        piece.push_str(&line);
-        piece.push('\n');
+        piece.extend_from_slice(line.as_bytes());
+        piece.push(b'\n');
         if piece.len() >= PIECE {
-            out.write_all(piece.as_bytes())?;
+            out.write_all(&piece)?;
             piece.clear();
         }
     }
-    out.write_all(piece.as_bytes())
+    out.write_all(&piece)
 }
 
 /// Says on standard error, if it can be said there, why there is no answer.
