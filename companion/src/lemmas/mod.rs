@@ -2,6 +2,7 @@
 mod book;
 mod checker;
 mod explore;
+mod finder;
 mod prune;
 
 #[cfg(test)]
@@ -41,32 +42,72 @@ mod tests {
             let show = reading::show(&judged.logic, &judged.lemmas).unwrap();
             let logic = show.logic;
             let at = std::time::Instant::now();
-            let mut book = book::Book::new(&logic);
-            let all: Vec<usize> = (0..logic.predicates.len()).collect();
-            let found = explore::explore(&mut book, &all);
-            for k in 0..logic.actions.len() { for p in 0..logic.predicates.len() { if !explore::touches(&logic, Source::Action(k), p) {
-                book.shows(Source::Action(k), Goal::Holds(p), Literals::default());
-                book.shows(Source::Action(k), Goal::Fails(p), Literals::default()); } } }
-            let list = book.all();
             let mut checker = checker::Checker::new(&logic);
-            checker.accepts(&list).unwrap();
-            let t1 = at.elapsed();
-            println!("{name}: shipped {}, actions {} preds {} | pool {} nodes {} findings {} over {} judged {:?} {:?}", show.lemmas.len(), logic.actions.len(), all.len(), list.len(), found.nodes.len(), found.findings, found.over, checker.judge(&list), t1);
-            if found.findings == 0 && !found.over {
-                for order in 0..40 {
-                    let at = std::time::Instant::now();
-                    let mut l = list.clone();
-                    if order < 10 { l.sort_by_key(|x| prune::rank(x, order)) } else { let mut s = order as u64 * 7919 + 1; for i in (1..l.len()).rev() { s = s.wrapping_mul(6364136223846793005).wrapping_add(1442695040888963407); let j = (s >> 33) as usize % (i+1); l.swap(i,j);} }
-                    let l2 = prune::pruned(&mut checker, l.clone());
-                    let t1 = at.elapsed();
-                    println!(
-                        "   {name}: order {order}: {} {:?} nodes {:?} ",
-                        l2.len(),
-                        t1,
-                        checker.judge(&l2).unwrap().nodes
-                    );
-                }
+            let found = finder::find(&logic, &mut checker).unwrap();
+            println!(
+                "{name}: shipped {}, found {} {} {:?}",
+                show.lemmas.len(),
+                found.lemmas.len(),
+                found.safe,
+                at.elapsed()
+            );
+        }
+    }
+
+    /// n pairs of lamps that exclude each other, and m lamps more.
+    #[test]
+    fn pairs() {
+        use crate::show::rows::*;
+        for (vars, pairs) in [(8, 4), (8, 3), (8, 2), (8, 1), (8, 0)] {
+            let mut logic = Logic::default();
+            for _ in 0..vars {
+                logic.ranges.push(Range { low: 0, high: 1000 });
             }
+            for v in 0..vars {
+                logic
+                    .start
+                    .push(Row::constant(0).plus(-1, &Row::variable(v)));
+            }
+            // two predicates each: up, and full for the first six
+            for v in 0..vars {
+                logic
+                    .predicates
+                    .push(Row::constant(-1).plus(1, &Row::variable(v)));
+            }
+            for v in 0..6 {
+                logic
+                    .predicates
+                    .push(Row::constant(-1000).plus(1, &Row::variable(v)));
+            }
+            for v in 0..vars {
+                let mut guards = vec![Row::constant(995).plus(-1, &Row::variable(v))];
+                if v / 2 < pairs {
+                    guards.push(Row::constant(0).plus(-1, &Row::variable(v ^ 1)));
+                }
+                logic.actions.push(Action {
+                    guards,
+                    sets: vec![(v, Row::constant(5).plus(1, &Row::variable(v)))],
+                });
+                logic.actions.push(Action {
+                    guards: vec![Row::constant(-5).plus(1, &Row::variable(v))],
+                    sets: vec![(v, Row::constant(-5).plus(1, &Row::variable(v)))],
+                });
+            }
+            for k in 0..pairs {
+                logic.forbidden.push(Literals {
+                    holds: 3 << (2 * k),
+                    fails: 0,
+                });
+            }
+            let at = std::time::Instant::now();
+            let mut checker = checker::Checker::new(&logic);
+            let found = finder::find(&logic, &mut checker).unwrap();
+            println!(
+                "pairs {pairs}: found {} {} {:?}",
+                found.lemmas.len(),
+                found.safe,
+                at.elapsed()
+            );
         }
     }
 }

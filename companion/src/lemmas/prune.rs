@@ -1,50 +1,49 @@
-//! A list of lemmas made shorter, as long as the proved call says safe of what is left.
+//! A list of lemmas made shorter, as long as the verdict stays safe.
 use super::checker::Checker;
-use crate::show::model::{Goal, Lemma};
+use super::explore::{everything, explore, Listed};
+use super::finder::WIDE;
+use crate::show::model::{Lemma, Logic};
 
-/// Leaves out what can be left out, in halves, quarters and so on, and then one by one, from the front of the order.
-pub fn pruned(checker: &mut Checker, mut lemmas: Vec<Lemma>) -> Vec<Lemma> {
-    let mut size = lemmas.len().div_ceil(2);
-    while size > 0 {
-        lemmas = without(checker, lemmas, size);
-        size = if size == 1 { 0 } else { size.div_ceil(2) };
-    }
-    lemmas
+pub struct Pruner<'a> {
+    pub logic: &'a Logic,
+    pub checker: &'a mut Checker,
 }
 
-/// Without the chunks of this size that can be left out.
-fn without(checker: &mut Checker, mut lemmas: Vec<Lemma>, size: usize) -> Vec<Lemma> {
-    let mut at = 0;
-    while at < lemmas.len() {
-        let end = (at + size).min(lemmas.len());
-        let fewer = [&lemmas[..at], &lemmas[end..]].concat();
-        if checker.safe(&fewer) {
-            lemmas = fewer;
-        } else {
-            at = end;
+impl Pruner<'_> {
+    /// Is the verdict safe? So says the proved call, or, of a list that it does not take, the companion's own exploration.
+    fn safe(&mut self, lemmas: &[Lemma]) -> Result<bool, String> {
+        if let Some(safe) = self.checker.safe(lemmas)? {
+            return Ok(safe);
         }
+        let mut listed = Listed::new(self.logic, lemmas);
+        let explored = explore(&mut listed, everything(self.logic), WIDE.nodes);
+        Ok(!explored.over && explored.faults.is_empty())
     }
-    lemmas
-}
 
-pub fn rank(lemma: &Lemma, order: usize) -> (usize, i64) {
-    let n = lemma.premises.each().count() as i64;
-    let g = match lemma.goal {
-        Goal::Never => 0,
-        Goal::Holds(_) => 1,
-        Goal::Fails(_) => 2,
-        _ => 3,
-    };
-    match order {
-        0 => (0, 0),
-        1 => (g, -n),
-        2 => ([2, 0, 0, 3][g], -n),
-        3 => ([2, 0, 1, 3][g], -n),
-        4 => ([2, 1, 0, 3][g], -n),
-        5 => (0, -n),
-        6 => (0, n),
-        7 => ([0, 1, 1, 2][g], -n),
-        8 => ([3, 1, 1, 0][g], -n),
-        _ => ([0, 2, 1, 3][g], -n),
+    /// What is left of a list of which the verdict is safe: lemmas with many premises, which apply at few nodes, are the first to go; in halves,
+    /// quarters and so on, and then one by one.
+    pub fn pruned(&mut self, mut lemmas: Vec<Lemma>) -> Result<Vec<Lemma>, String> {
+        lemmas.sort_by_key(|lemma| std::cmp::Reverse(lemma.premises.each().count()));
+        let mut size = lemmas.len();
+        while size > 1 {
+            size = size.div_ceil(2);
+            lemmas = self.without(lemmas, size)?;
+        }
+        lemmas.sort_by_key(|lemma| (lemma.source, lemma.goal, lemma.premises));
+        Ok(lemmas)
+    }
+
+    /// Without the pieces of this size that can be left out.
+    fn without(&mut self, mut lemmas: Vec<Lemma>, size: usize) -> Result<Vec<Lemma>, String> {
+        let mut at = 0;
+        while at < lemmas.len() {
+            let end = (at + size).min(lemmas.len());
+            let fewer = [&lemmas[..at], &lemmas[end..]].concat();
+            match self.safe(&fewer)? {
+                true => lemmas = fewer,
+                false => at = end,
+            }
+        }
+        Ok(lemmas)
     }
 }
