@@ -1,7 +1,7 @@
 //! The commands `text` and `words`: a show as text, with names, and as words. Neither says anything of its safety.
 use crate::input::Input;
 use crate::output::{Said, Status};
-use crate::show::model::Show;
+use crate::show::model::{Logic, Show};
 use crate::show::names::Names;
 use crate::show::reading;
 use crate::text;
@@ -30,7 +30,7 @@ fn plain(bytes: &[u8]) -> Result<Result<Show, String>, String> {
 }
 
 /// The show that a command got. No text is one that the proved calls refuse.
-fn shown(input: &Input) -> Result<Result<Show, String>, String> {
+pub fn shown(input: &Input) -> Result<Result<Show, String>, String> {
     match plain(&input.bytes)? {
         Err(why) if input.names.is_some() => Err(mismatch(why)),
         Ok(show) if show.bytes() != input.bytes => Err(mismatch("the show has other words")),
@@ -44,13 +44,23 @@ pub fn text(input: &Input) -> Result<Said, String> {
         Ok(show) => show,
         Err(why) => return Ok(Said::aside(why, Status::Refused)),
     };
+    let text = written(&show, &named(input, &show.logic))?;
+    Ok(Said::bytes(text, Status::Good))
+}
+
+/// The names of a show's own text, or numbered ones.
+pub fn named(input: &Input, logic: &Logic) -> Names {
     let names = input.names.clone();
-    let names = names.unwrap_or_else(|| Names::numbered(&show.logic));
-    let text = text::write(&show, &names);
-    if text::read(&text) != Ok((show, names)) {
-        return Err("the text does not read back as the show".to_string());
+    names.unwrap_or_else(|| Names::numbered(logic))
+}
+
+/// The text of a show, which reads back as the same; or the trouble.
+pub fn written(show: &Show, names: &Names) -> Result<Vec<u8>, String> {
+    let text = text::write(show, names);
+    match text::read(&text) {
+        Ok((again, same)) if again == *show && same == *names => Ok(text.into_bytes()),
+        _ => Err("the text does not read back as the show".to_string()),
     }
-    Ok(Said::bytes(text.into_bytes(), Status::Good))
 }
 
 /// The words of a show, little-endian.

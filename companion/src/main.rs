@@ -74,6 +74,12 @@ const COMMANDS: &[Command] = &[
         makes: true,
         run: convert::words,
     },
+    Command {
+        name: "lemmas",
+        prints: "the show as text, with lemmas that are found for it; what is lacking goes to standard error",
+        makes: true,
+        run: lemmas::run,
+    },
 ];
 
 /// What the arguments ask for.

@@ -23,6 +23,8 @@ pub struct Said {
     pub lines: Box<dyn Iterator<Item = String>>,
     /// Is it for standard error, and standard output stays empty?
     pub aside: bool,
+    /// Lines on standard error behind it, if they can be said there.
+    pub behind: Vec<String>,
     pub status: Status,
 }
 
@@ -33,6 +35,7 @@ impl Said {
             bytes: Vec::new(),
             lines,
             aside: false,
+            behind: Vec::new(),
             status,
         }
     }
@@ -68,10 +71,9 @@ pub fn print(said: Said) -> Result<Status, String> {
         said.lines.for_each(|line| mention(&line));
         return Ok(said.status);
     }
-    match write(said.bytes, said.lines) {
-        Ok(()) => Ok(said.status),
-        Err(e) => Err(format!("cannot write to standard output: {e}")),
-    }
+    write(said.bytes, said.lines).map_err(|e| format!("cannot write to standard output: {e}"))?;
+    said.behind.iter().for_each(|line| mention(line));
+    Ok(said.status)
 }
 
 /// Through a file: the runtime's own standard output takes one that is not open for writing for a success. Behind a write that

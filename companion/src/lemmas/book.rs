@@ -110,12 +110,13 @@ impl<'a> Book<'a> {
             let premise = at.next().is_some_and(|k| (first..last).contains(&k));
             !premise || times != 0
         });
-        Some(Lemma {
+        let lemma = Lemma {
             source,
             goal,
             premises: kept,
             multipliers,
-        })
+        };
+        (lemma.largest(self.logic) < 0).then_some(lemma)
     }
 
     /// The literals that can bear on a goal: those that its row, or for `Never` the source's rows, are joined to by common variables. The

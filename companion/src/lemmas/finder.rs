@@ -53,13 +53,6 @@ impl Attempt {
     }
 }
 
-/// What was found.
-pub struct Outcome {
-    pub lemmas: Vec<Lemma>,
-    /// So says the proved call.
-    pub safe: bool,
-}
-
 struct Finder<'a> {
     logic: &'a Logic,
     book: Book<'a>,
@@ -67,19 +60,18 @@ struct Finder<'a> {
 }
 
 /// Finds lemmas, of which the proved calls are asked; or the trouble.
-pub fn find(logic: &Logic, checker: &mut Checker) -> Result<Outcome, String> {
+pub fn find(logic: &Logic, checker: &mut Checker) -> Result<Vec<Lemma>, String> {
     let book = Book::new(logic);
-    let lemmas = Finder {
+    let mut finder = Finder {
         logic,
         book,
         checker,
-    }
-    .lemmas()?;
+    };
+    let mut lemmas = finder.lemmas()?;
+    let place = |lemma: &Lemma| (lemma.source != Source::Start, lemma.source);
+    lemmas.sort_by_key(|lemma| (place(lemma), lemma.goal, lemma.premises));
     checker.accepts(&lemmas)?;
-    match checker.safe(&lemmas)? {
-        Some(safe) => Ok(Outcome { lemmas, safe }),
-        None => Err("the lemmas that were found do not fit".to_string()),
-    }
+    Ok(lemmas)
 }
 
 impl Finder<'_> {

@@ -1,9 +1,54 @@
-//! The command `lemmas`.
+//! The command `lemmas`: finds lemmas for a logic, and prints the show with them as text. What lemmas the show came with does not matter. Nothing of
+//! it has to be trusted: each lemma is asked of the proved call, and the status is by its verdict on the list that is printed.
+//!
+//! | Module | Holds |
+//! |---|---|
+//! | `book` | lemmas found where they are first wanted |
+//! | `explore` | the graph over anything that shows goals |
+//! | `finder` | which predicates are followed |
+//! | `prune` | a list made shorter |
+//! | `checker` | what the proved calls say of a list |
+//! | `lacking` | what is lacking where something may go wrong |
+
 mod book;
 mod checker;
 mod explore;
 mod finder;
+mod lacking;
 mod prune;
+
+use crate::convert::{named, shown, written};
+use crate::input::Input;
+use crate::output::{Said, Status};
+use crate::show::model::Show;
+use checker::Checker;
+use lacking::Graph;
+
+/// The text of a show with the lemmas that were found, and behind it what is lacking; or the trouble.
+pub fn run(input: &Input) -> Result<Said, String> {
+    let logic = match shown(input)? {
+        Ok(show) => show.logic,
+        Err(why) => return Ok(Said::aside(why, Status::Refused)),
+    };
+    let names = named(input, &logic);
+    let mut checker = Checker::new(&logic);
+    let lemmas = finder::find(&logic, &mut checker)?;
+    let findings = checker.findings(&lemmas)?;
+    let show = Show { logic, lemmas };
+    let text = written(&show, &names)?;
+    if findings.is_empty() {
+        return Ok(Said::bytes(text, Status::Good));
+    }
+    let graph = Graph {
+        logic: &show.logic,
+        list: &checker.graph,
+    };
+    let behind = graph.lines(&findings, &names);
+    Ok(Said {
+        behind,
+        ..Said::bytes(text, Status::Findings)
+    })
+}
 
 #[cfg(test)]
 mod tests {

@@ -29,7 +29,6 @@ impl Pruner<'_> {
             size = size.div_ceil(2);
             lemmas = self.without(lemmas, size)?;
         }
-        lemmas.sort_by_key(|lemma| (lemma.source, lemma.goal, lemma.premises));
         Ok(lemmas)
     }
 
