@@ -98,7 +98,7 @@ action 1 may take variable 0 above its high end at node 0; actions: none'
 # House without lemmas 0 and 4, as in tests/embed.sh: nothing is known of predicate 0 at the start, and so nothing after action 0.
 { head -c 120 shows/house.words; tail -c +141 shows/house.words | head -c 56; tail -c +213 shows/house.words; } >"$room/house"
 says "$room/house" 'may meet forbidden combination 0 at node 1; actions: 0'
-# Bump, by tests/shows.py: once action 0 has armed it, nothing shows that action 1 keeps to the high end.
+# Bump, by shows/bump.text: once action 0 has armed it, nothing shows that action 1 keeps to the high end.
 says shows/bump.words 'action 1 may take variable 0 above its high end at node 1; actions: 0'
 
 # Cut at each word; the larger ones behind the logic and between lemmas, with up to 12,640 findings, and 511 actions to one. With the first 693 words of

@@ -35,16 +35,9 @@ judged() { # NAME EXPECTED [ARGUMENT]
     say "$name" $?
 }
 
-# tests/shows.py still makes the stored shows, byte for byte.
-made() {
-    local file
-    python3 tests/shows.py "$room/made" || return 1
-    for file in "$room"/made/*; do
-        cmp "$file" "shows/${file##*/}" || return 1
-    done
-}
-made
-say "shows as tests/shows.py makes them" $?
+# Each text compiles to its words; ./bulanevior builds the companion where it is missing or old.
+./bulanevior help >/dev/null 2>&1 && python3 -B tests/shows.py ./bulanevior
+say "the words of the texts, by tests/shows.py" $?
 
 ./judge shows/fade.words >/dev/null 2>&1 # builds the program where it is missing or old
 for show in shows/*.words; do

@@ -1,5 +1,5 @@
 //! Reading a show, from a file or from standard input.
-use bulanevior::SHOW_BYTES;
+use crate::input;
 use std::ffi::OsString;
 use std::fs::File;
 use std::io::Read;
@@ -31,7 +31,7 @@ pub fn source(arguments: &[OsString], terminal: bool) -> Option<Source> {
     }
 }
 
-/// The bytes, or one more than a show may have; or the trouble.
+/// The bytes, as far as anybody looks at them; or the trouble.
 pub fn read(source: &Source) -> Result<Vec<u8>, String> {
     match source {
         Source::Input => standard_input()
@@ -50,7 +50,7 @@ fn standard_input() -> std::io::Result<File> {
 
 fn load(file: File) -> std::io::Result<Vec<u8>> {
     let mut bytes = Vec::new();
-    file.take(SHOW_BYTES as u64 + 1).read_to_end(&mut bytes)?;
+    file.take(input::BYTES as u64).read_to_end(&mut bytes)?;
     Ok(bytes)
 }
 

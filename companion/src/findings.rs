@@ -1,12 +1,13 @@
 //! The command `findings`: all findings of a show, one line each, with the actions that lead there.
+use crate::input::Input;
 use crate::output::{Said, Status};
 use crate::verdict::{self, mismatch, path, presses, safe, sentence, Answer, Judged};
 use bulanevior::*;
 use std::collections::{BTreeMap, BTreeSet};
 
-/// What is said of the bytes of a show file, or the trouble.
-pub fn run(bytes: &[u8]) -> Result<Said, String> {
-    match verdict::judge(bytes)? {
+/// What is said of a show, or the trouble.
+pub fn run(input: &Input) -> Result<Said, String> {
+    match verdict::judge(&input.bytes)? {
         Answer::Judged(show) => told(show),
         Answer::Refused(why) => Ok(Said::line(why.sentence, Status::Refused)),
     }
@@ -54,7 +55,8 @@ mod tests {
 
     /// The lines and the status for the bytes of a show file.
     fn answer(bytes: &[u8]) -> (Vec<String>, Status) {
-        let said = run(bytes).unwrap();
+        let input = crate::input::of(bytes.to_vec()).unwrap();
+        let said = run(&input).unwrap();
         (said.lines.collect(), said.status)
     }
 

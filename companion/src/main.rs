@@ -1,8 +1,10 @@
 //! The companion, a program for people: `bulanevior COMMAND [--] [FILE]`. Whatever it says or draws of a show comes from the proved
-//! calls; it only puts it into words, and into places in a picture.
+//! calls; it only puts it into words, and into places in a picture. A show comes as words or as text.
 //!
-//! The exit status: 0 safe; 1 findings; 3 the show is refused, cut or too long; 2 trouble, and there is no answer.
+//! The exit status: 0 safe, or the file that was asked for; 1 findings; 3 the show is refused, cut or too long; 2 trouble, and there
+//! is no answer.
 
+mod convert;
 mod draw;
 mod explain;
 mod file;
@@ -16,39 +18,74 @@ mod text;
 mod verdict;
 
 use file::Source;
+use input::Input;
 use output::{Said, Status};
 use std::ffi::OsString;
 use std::io::IsTerminal;
 use std::process::ExitCode;
 
-/// What the program does with the bytes of a show. One more is an entry more in `COMMANDS`.
+/// What the program does with a show. One more is an entry more in `COMMANDS`.
 struct Command {
     name: &'static str,
     prints: &'static str,
-    /// What is said of the bytes of a show file, or the trouble.
-    run: fn(&[u8]) -> Result<Said, String>,
+    /// Does it make a file? Then what it refuses is said on standard error, and standard output stays empty.
+    makes: bool,
+    /// What is said of a show, or the trouble.
+    run: fn(&Input) -> Result<Said, String>,
+}
+
+impl Command {
+    /// What is said of the bytes of a file, or the trouble.
+    fn answer(&self, bytes: Vec<u8>) -> Result<Said, String> {
+        match input::of(bytes) {
+            Ok(input) => (self.run)(&input),
+            Err(fault) if self.makes => Ok(Said::aside(refused(&fault), Status::Refused)),
+            Err(fault) => Ok(Said::line(refused(&fault), Status::Refused)),
+        }
+    }
+}
+
+/// In a sentence why a text is no show.
+fn refused(fault: &text::Fault) -> String {
+    format!("refused: {fault}")
 }
 
 const COMMANDS: &[Command] = &[
     Command {
-        name: "findings",
-        prints: "all findings, one line each, with the actions that lead there",
-        run: findings::run,
+        name: "explain",
+        prints: "the verdict or refusal: the word at fault, or the presses to the first finding, replayed",
+        makes: false,
+        run: explain::run,
     },
     Command {
-        name: "explain",
-        prints: "the verdict or the refusal in words",
-        run: |bytes| {
-            explain::run(&input::Input {
-                bytes: bytes.to_vec(),
-                names: None,
-            })
-        },
+        name: "findings",
+        prints: "all findings, one line each, with the actions that lead there",
+        makes: false,
+        run: findings::run,
     },
     Command {
         name: "draw",
         prints: "the graph as an SVG, with the path to the first finding",
+        makes: true,
         run: draw::run,
+    },
+    Command {
+        name: "text",
+        prints: "the show as text, with names, to be read and edited",
+        makes: true,
+        run: convert::text,
+    },
+    Command {
+        name: "words",
+        prints: "the show as words, to be judged and loaded",
+        makes: true,
+        run: convert::words,
+    },
+    Command {
+        name: "lemmas",
+        prints: "the show as text, with lemmas that are found for it; what is lacking goes to standard error",
+        makes: true,
+        run: lemmas::run,
     },
 ];
 
@@ -80,11 +117,12 @@ fn usage() -> String {
     format!(
         "Usage: bulanevior COMMAND [--] [FILE]
 Says in words, or draws, what the proved calls answer for the show in FILE; on standard input without FILE, or for -.
+A show is words or text, to every command.
 {commands}  help       this text, as --help, and --version the version: each alone
-Status: 0  safe
+Status: 0  safe; of text and words, which do not judge, that they are whole
         1  findings
         2  trouble: no answer, and the reason on standard error
-        3  the show is refused, cut or too long; there is no drawing then, and the reason is on standard error"
+        3  the show is refused, cut or too long; of draw, text and words nothing is printed then, and the reason is on standard error"
     )
 }
 
@@ -96,7 +134,7 @@ fn said(wanted: Wanted) -> Result<Said, String> {
             let version = concat!("bulanevior ", env!("CARGO_PKG_VERSION"));
             Ok(Said::line(version.to_string(), Status::Good))
         }
-        Wanted::Answer(command, source) => (command.run)(&file::read(&source)?),
+        Wanted::Answer(command, source) => command.answer(file::read(&source)?),
     }
 }
 

@@ -8,18 +8,23 @@ use std::sync::atomic::{AtomicBool, Ordering};
 #[derive(Clone, Copy, Debug, PartialEq, Eq)]
 #[repr(u8)]
 pub enum Status {
-    /// The show is safe; or no show was asked about.
+    /// The show is safe; or its safety was not asked about.
     Good = 0,
     Findings = 1,
     Trouble = 2,
     Refused = 3,
 }
 
-/// What is to be printed, in lines without their newlines, and the exit status that goes with it.
+/// What is to be printed, and the exit status that goes with it.
 pub struct Said {
+    /// What goes out first, as it is.
+    pub bytes: Vec<u8>,
+    /// Without their newlines.
     pub lines: Box<dyn Iterator<Item = String>>,
     /// Is it for standard error, and standard output stays empty?
     pub aside: bool,
+    /// Lines on standard error behind it, if they can be said there.
+    pub behind: Vec<String>,
     pub status: Status,
 }
 
@@ -27,9 +32,19 @@ impl Said {
     pub fn lines(lines: impl Iterator<Item = String> + 'static, status: Status) -> Said {
         let lines = Box::new(lines);
         Said {
+            bytes: Vec::new(),
             lines,
             aside: false,
+            behind: Vec::new(),
             status,
+        }
+    }
+
+    /// The bytes of a file.
+    pub fn bytes(bytes: Vec<u8>, status: Status) -> Said {
+        Said {
+            bytes,
+            ..Said::lines(std::iter::empty(), status)
         }
     }
 
@@ -56,26 +71,25 @@ pub fn print(said: Said) -> Result<Status, String> {
         said.lines.for_each(|line| mention(&line));
         return Ok(said.status);
     }
-    match write(said.lines) {
-        Ok(()) => Ok(said.status),
-        Err(e) => Err(format!("cannot write to standard output: {e}")),
-    }
+    write(said.bytes, said.lines).map_err(|e| format!("cannot write to standard output: {e}"))?;
+    said.behind.iter().for_each(|line| mention(line));
+    Ok(said.status)
 }
 
 /// Through a file: the runtime's own standard output takes one that is not open for writing for a success. Behind a write that
 /// failed there is no other.
-fn write(lines: impl Iterator<Item = String>) -> std::io::Result<()> {
+fn write(bytes: Vec<u8>, lines: impl Iterator<Item = String>) -> std::io::Result<()> {
     let mut out = File::from(std::io::stdout().as_fd().try_clone_to_owned()?);
-    let mut piece = String::new();
+    let mut piece = bytes;
     for line in lines {
-        piece.push_str(&line);
-        piece.push('\n');
+        piece.extend_from_slice(line.as_bytes());
+        piece.push(b'\n');
         if piece.len() >= PIECE {
-            out.write_all(piece.as_bytes())?;
+            out.write_all(&piece)?;
             piece.clear();
         }
     }
-    out.write_all(piece.as_bytes())
+    out.write_all(&piece)
 }
 
 /// Says on standard error, if it can be said there, why there is no answer.

@@ -11,6 +11,7 @@ mod search;
 mod svg;
 mod titles;
 
+use crate::input::Input;
 use crate::output::{Said, Status};
 use crate::verdict::{self, path, presses, safe, sentence, Answer, Judged};
 use curves::Arrow;
@@ -32,9 +33,9 @@ const MANY_ARROW: &str = "#8c98a8";
 const PATH: &str = "#c2410c";
 const FINDING: &str = "#b3261e";
 
-/// What is drawn of the bytes of a show file, or the trouble. Where there is no graph, standard output stays empty.
-pub fn run(bytes: &[u8]) -> Result<Said, String> {
-    match verdict::judge(bytes)? {
+/// What is drawn of a show, or the trouble. Where there is no graph, standard output stays empty.
+pub fn run(input: &Input) -> Result<Said, String> {
+    match verdict::judge(&input.bytes)? {
         Answer::Judged(show) => {
             let status = match show.judgement.verdict.finding() {
                 None => Status::Good,
@@ -264,7 +265,7 @@ mod tests {
 
     /// The drawing of a show, with its status.
     fn drawn(bytes: &[u8]) -> (String, Status) {
-        let said = run(bytes).unwrap();
+        let said = run(&crate::input::of(bytes.to_vec()).unwrap()).unwrap();
         assert!(!said.aside);
         (said.lines.collect::<Vec<_>>().join("\n"), said.status)
     }
@@ -329,7 +330,7 @@ mod tests {
     #[test]
     fn what_is_no_show() {
         for bytes in [&[] as &[u8], &[0], &[0; 65_537]] {
-            let said = run(bytes).unwrap();
+            let said = run(&crate::input::of(bytes.to_vec()).unwrap()).unwrap();
             assert!(said.aside && said.status == Status::Refused);
             assert_eq!(said.lines.count(), 1);
         }

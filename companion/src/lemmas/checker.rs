@@ -1,11 +1,11 @@
 //! What the proved calls say of a list of lemmas for a logic.
-use crate::show::model::{Lemma, Logic};
+use crate::show::model::{Lemma, Logic, LEMMAS};
 use crate::verdict::mismatch;
 use bulanevior::*;
 
 pub struct Checker {
     words: Vec<u32>,
-    graph: Vec<u32>,
+    pub graph: Vec<u32>,
     path: Vec<u32>,
 }
 
@@ -24,14 +24,23 @@ impl Checker {
         }
     }
 
-    /// Judge's answer.
-    pub fn judge(&mut self, lemmas: &[Lemma]) -> Result<Judgement, Refusal> {
-        judge(&self.words, &words(lemmas), &mut self.graph, &mut self.path)
+    /// Is the verdict safe? None where the list is too long or the graph has too many nodes; or the trouble.
+    pub fn safe(&mut self, lemmas: &[Lemma]) -> Result<Option<bool>, String> {
+        if lemmas.len() > LEMMAS {
+            return Ok(None);
+        }
+        match judge(&self.words, &words(lemmas), &mut self.graph, &mut self.path) {
+            Ok(judgement) => Ok(Some(judgement.verdict == Verdict::Safe)),
+            Err(Refusal::Nodes) => Ok(None),
+            Err(why) => Err(mismatch(format!("lemmas that were found: {why}"))),
+        }
     }
 
-    pub fn safe(&mut self, lemmas: &[Lemma]) -> bool {
-        self.judge(lemmas)
-            .is_ok_and(|judgement| judgement.verdict == Verdict::Safe)
+    /// All findings, with the graph in its list; or the trouble.
+    pub fn findings(&mut self, lemmas: &[Lemma]) -> Result<Vec<Finding>, String> {
+        let mut list = vec![0; MOST_FINDINGS];
+        findings(&self.words, &words(lemmas), &mut self.graph, &mut list).map_err(mismatch)?;
+        Ok(listed(&list).collect())
     }
 
     /// That every lemma is accepted, or the trouble.

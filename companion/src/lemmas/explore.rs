@@ -1,104 +1,166 @@
-//! The abstract state graph, explored as the checker does, breadth-first, with lemmas found on the way.
-use super::book::Book;
-use crate::show::model::{Goal, Literals, Logic, Source};
-use bulanevior::MOST_NODES;
-use std::collections::HashSet;
+//! The abstract state graph, explored as the checker does, breadth-first, over anything that shows goals: the companion's own reading of
+//! formula (3), by which lemmas are found and lists tried that the proved call does not take. What is said in the end the proved call says.
+use crate::show::model::{Goal, Lemma, Literals, Logic, Source};
+use std::collections::{BTreeSet, HashMap, HashSet};
+
+/// What shows goals.
+pub trait Shown {
+    fn logic(&self) -> &Logic;
+
+    /// Is a goal shown where these literals are known?
+    fn shows(&mut self, source: Source, goal: Goal, known: Literals) -> bool;
+}
+
+/// A list of lemmas, which shows what it shows.
+pub struct Listed<'a> {
+    logic: &'a Logic,
+    premises: HashMap<(Source, Goal), Vec<Literals>>,
+}
+
+impl<'a> Listed<'a> {
+    pub fn new(logic: &'a Logic, lemmas: &[Lemma]) -> Listed<'a> {
+        let mut premises: HashMap<_, Vec<Literals>> = HashMap::new();
+        for lemma in lemmas {
+            let all = premises.entry((lemma.source, lemma.goal)).or_default();
+            all.push(lemma.premises);
+        }
+        Listed { logic, premises }
+    }
+}
+
+impl Shown for Listed<'_> {
+    fn logic(&self) -> &Logic {
+        self.logic
+    }
+
+    fn shows(&mut self, source: Source, goal: Goal, known: Literals) -> bool {
+        let all = self.premises.get(&(source, goal));
+        all.is_some_and(|all| all.iter().any(|&premises| known.contains(premises)))
+    }
+}
+
+/// What may go wrong somewhere in a graph.
+#[derive(Clone, Copy, Debug, PartialEq, Eq, PartialOrd, Ord)]
+pub enum Fault {
+    /// A forbidden combination may be met.
+    Met(usize),
+    /// An action may pass an end: the goal that is not shown.
+    Passed(usize, Goal),
+}
 
 /// What an exploration came to.
 pub struct Explored {
-    pub nodes: Vec<Literals>,
-    /// Nodes with forbidden combinations that they may meet, and ends that no lemma keeps to.
-    pub findings: usize,
-    /// Is there a node too many?
+    pub nodes: usize,
+    pub faults: BTreeSet<Fault>,
+    /// Was there a node too many? Then it was broken off.
     pub over: bool,
 }
 
-/// Has the predicate's row a coefficient on a variable that the source sets? The start, of which nothing is known before, touches all.
+/// Has the predicate's row a coefficient on a variable that the source sets? Of the start nothing is known before.
 pub fn touches(logic: &Logic, source: Source, predicate: usize) -> bool {
     let (_, sets) = logic.source(source);
     let row = logic.predicates[predicate];
-    source == Source::Start || sets.iter().any(|&(v, _)| row.coefficients[v] != 0)
+    sets.iter().any(|&(v, _)| row.coefficients[v] != 0)
 }
 
-/// The successor of a node, which knows of the followed predicates only; None where there is none.
-fn successor(
-    book: &mut Book,
+/// Is something known of a predicate?
+pub fn speaks(literals: Literals, predicate: usize) -> bool {
+    (literals.holds | literals.fails) >> predicate & 1 == 1
+}
+
+/// The literals of a predicate behind a source at a node, of those that are followed. Both, where there is no successor.
+fn conjunct(
+    shown: &mut impl Shown,
     source: Source,
     node: Literals,
-    followed: &[usize],
+    followed: Literals,
+    p: usize,
+) -> (bool, bool) {
+    if speaks(node, p) && !touches(shown.logic(), source, p) {
+        return (node.holds >> p & 1 == 1, node.fails >> p & 1 == 1);
+    }
+    let mut known = |wanted: u32, goal| wanted >> p & 1 == 1 && shown.shows(source, goal, node);
+    let holds = known(followed.holds, Goal::Holds(p));
+    (holds, known(followed.fails, Goal::Fails(p)))
+}
+
+/// The successor of a node: None where there is none.
+fn successor(
+    shown: &mut impl Shown,
+    source: Source,
+    node: Literals,
+    followed: Literals,
 ) -> Option<Literals> {
-    if book.shows(source, Goal::Never, node) {
+    if shown.shows(source, Goal::Never, node) {
         return None;
     }
-    let mut next = Literals::default();
-    for &p in followed {
-        let known = (node.holds | node.fails) >> p & 1 == 1;
-        if known && !touches(book.logic, source, p) {
-            next = next.with(p, node.holds >> p & 1 == 1);
-            continue;
-        }
-        let holds = book.shows(source, Goal::Holds(p), node);
-        let fails = book.shows(source, Goal::Fails(p), node);
-        match (holds, fails) {
-            (true, true) => return None,
-            (true, false) => next = next.with(p, true),
-            (false, true) => next = next.with(p, false),
-            (false, false) => {}
-        }
-    }
-    Some(next)
+    let predicates = 0..shown.logic().predicates.len();
+    predicates
+        .into_iter()
+        .try_fold(Literals::default(), |next, p| {
+            match conjunct(shown, source, node, followed, p) {
+                (true, true) => None,
+                (false, false) => Some(next),
+                (holds, _) => Some(next.with(p, holds)),
+            }
+        })
 }
 
 /// The ends that an action may pass at a node.
-fn passed(book: &mut Book, action: usize, node: Literals) -> usize {
-    let sets: Vec<usize> = book.logic.actions[action]
-        .sets
+fn passed(shown: &mut impl Shown, action: usize, node: Literals) -> Vec<Fault> {
+    let sets = &shown.logic().actions[action].sets;
+    let ends = sets
         .iter()
-        .map(|set| set.0)
-        .collect();
-    let ends = sets.into_iter().flat_map(|v| [Goal::Low(v), Goal::High(v)]);
-    ends.filter(|&end| !book.shows(Source::Action(action), end, node))
-        .count()
+        .flat_map(|&(v, _)| [Goal::Low(v), Goal::High(v)]);
+    let mut ends: Vec<Goal> = ends.collect();
+    ends.retain(|&end| !shown.shows(Source::Action(action), end, node));
+    ends.into_iter()
+        .map(|end| Fault::Passed(action, end))
+        .collect()
 }
 
-/// The forbidden combinations that no literal of a node contradicts.
-fn met(logic: &Logic, node: Literals) -> usize {
-    let contradicts = |bad: &Literals| bad.holds & node.fails != 0 || bad.fails & node.holds != 0;
-    logic
-        .forbidden
-        .iter()
-        .filter(|bad| !contradicts(bad))
-        .count()
+/// Does a literal of the node contradict one of the combination?
+pub fn contradicts(node: Literals, combination: Literals) -> bool {
+    combination.holds & node.fails != 0 || combination.fails & node.holds != 0
 }
 
-/// The graph in which only some predicates are followed.
-pub fn explore(book: &mut Book, followed: &[usize]) -> Explored {
-    let mut found = Explored {
-        nodes: Vec::new(),
-        findings: 0,
-        over: false,
-    };
-    let start = successor(book, Source::Start, Literals::default(), followed);
-    found.nodes.extend(start);
+/// The forbidden combinations that a node may meet.
+fn met(logic: &Logic, node: Literals) -> impl Iterator<Item = Fault> + '_ {
+    let combinations = logic.forbidden.iter().enumerate();
+    let may = combinations.filter(move |(_, &bad)| !contradicts(node, bad));
+    may.map(|(k, _)| Fault::Met(k))
+}
+
+/// The graph of the literals that are followed, up to a number of nodes.
+pub fn explore(shown: &mut impl Shown, followed: Literals, most: usize) -> Explored {
+    let start = successor(shown, Source::Start, Literals::default(), followed);
+    let mut nodes: Vec<Literals> = start.into_iter().collect();
     let mut seen: HashSet<Literals> = start.into_iter().collect();
+    let mut faults = BTreeSet::new();
     let mut at = 0;
-    while at < found.nodes.len() {
-        let node = found.nodes[at];
+    while at < nodes.len() && nodes.len() <= most {
+        let node = nodes[at];
         at += 1;
-        found.findings += met(book.logic, node);
-        for action in 0..book.logic.actions.len() {
-            let Some(next) = successor(book, Source::Action(action), node, followed) else {
-                continue;
-            };
-            found.findings += passed(book, action, node);
-            if seen.insert(next) {
-                found.over = found.nodes.len() == MOST_NODES;
-                if found.over {
-                    return found;
-                }
-                found.nodes.push(next);
+        faults.extend(met(shown.logic(), node));
+        for action in 0..shown.logic().actions.len() {
+            if let Some(next) = successor(shown, Source::Action(action), node, followed) {
+                faults.extend(passed(shown, action, node));
+                nodes.extend(seen.insert(next).then_some(next));
             }
         }
     }
-    found
+    Explored {
+        nodes: nodes.len(),
+        faults,
+        over: nodes.len() > most,
+    }
+}
+
+/// All literals of a logic.
+pub fn everything(logic: &Logic) -> Literals {
+    let all = (1 << logic.predicates.len()) - 1;
+    Literals {
+        holds: all,
+        fails: all,
+    }
 }

@@ -1,7 +1,7 @@
 //! Names for variables, predicates and actions. Words have none: names live in the text of a show only.
 use super::model::Logic;
 
-#[derive(Clone, Debug, PartialEq, Eq)]
+#[derive(Clone, Debug, Default, PartialEq, Eq)]
 pub struct Names {
     pub variables: Vec<String>,
     pub predicates: Vec<String>,

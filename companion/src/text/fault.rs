@@ -1,0 +1,58 @@
+//! A place at which a text is no show, and what was expected there.
+use std::fmt;
+
+#[derive(Clone, Debug, PartialEq, Eq)]
+pub struct Fault {
+    /// Both count from 1; columns count characters.
+    pub line: usize,
+    pub column: usize,
+    pub message: String,
+}
+
+impl Fault {
+    /// A fault just behind a text.
+    pub fn behind(text: &str, message: &str) -> Fault {
+        let last = text.rsplit('\n').next().unwrap_or("");
+        Fault {
+            line: text.matches('\n').count() + 1,
+            column: last.chars().count() + 1,
+            message: message.to_string(),
+        }
+    }
+}
+
+impl fmt::Display for Fault {
+    fn fmt(&self, f: &mut fmt::Formatter) -> fmt::Result {
+        let Fault {
+            line,
+            column,
+            message,
+        } = self;
+        write!(f, "line {line}, column {column}: {message}")
+    }
+}
+
+/// The most characters of a text that a message quotes.
+const QUOTED: usize = 40;
+
+/// A part of the text, as a message quotes it.
+pub fn quoted(text: &str) -> String {
+    let mut shown: String = text
+        .chars()
+        .take(QUOTED)
+        .flat_map(char::escape_debug)
+        .collect();
+    if text.chars().nth(QUOTED).is_some() {
+        shown.push_str("...");
+    }
+    format!("`{shown}`")
+}
+
+/// "a, b or c".
+pub fn alternatives(all: &[String]) -> String {
+    match all {
+        [] => String::new(),
+        [one] => one.clone(),
+        [before @ .., last] => format!("{} or {last}", before.join(", ")),
+    }
+}
