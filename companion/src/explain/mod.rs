@@ -49,10 +49,10 @@ struct Told<'a> {
 }
 
 impl Told<'_> {
-    /// "action 2", with its name where it has one.
+    /// "action 2 (macro)", or "action 2" where it has no name.
     fn action(&self, action: usize) -> String {
         match self.named {
-            true => format!("action {action}, {}", self.names.actions[action]),
+            true => format!("action {action} ({})", self.names.actions[action]),
             false => format!("action {action}"),
         }
     }
