@@ -49,3 +49,46 @@ pub fn of(mut bytes: Vec<u8>) -> Result<Input, Fault> {
         }
     }
 }
+
+#[cfg(test)]
+mod tests {
+    use super::*;
+
+    fn refused(bytes: &[u8]) -> String {
+        match of(bytes.to_vec()) {
+            Ok(_) => panic!("no fault"),
+            Err(fault) => fault.to_string(),
+        }
+    }
+
+    #[test]
+    fn texts_and_words_are_told_apart() {
+        let named = |bytes: &[u8]| of(bytes.to_vec()).unwrap().names.is_some();
+        for text in ["variable x 0 to 1", "\u{FEFF}variable x 0 to 1\r\n\t#ü\n"] {
+            assert!(named(text.as_bytes()));
+        }
+        let fade = include_bytes!("../../shows/fade.words");
+        for words in [&fade[..], &fade[..1], &fade[..5], &[], &[0], &[b'#', 0x1F]] {
+            assert!(!named(words));
+            assert_eq!(of(words.to_vec()).unwrap().bytes, words);
+        }
+        assert_eq!(of(vec![0; BYTES]).unwrap().bytes.len(), SHOW_BYTES + 1);
+    }
+
+    #[test]
+    fn what_is_no_text() {
+        let none = "the text ends; expected a variable";
+        assert_eq!(refused(b"\n"), format!("line 2, column 1: {none}"));
+        let latin = b"variable x 0 to 1\n# B\xFChne\n";
+        assert_eq!(refused(latin), "line 2, column 4: a byte that is no UTF-8");
+        let long = [b"variable x 0 to 1\n#", vec![b'x'; BYTES].as_slice()].concat();
+        assert!(of(long[..text::BYTES].to_vec()).is_ok());
+        // The second line begins behind 18 bytes.
+        let column = text::BYTES - 18 + 1;
+        let why = "the text goes on behind 1,048,576 bytes, which are allowed";
+        assert_eq!(
+            refused(&long[..BYTES]),
+            format!("line 2, column {column}: {why}")
+        );
+    }
+}

@@ -168,6 +168,17 @@ impl<'a> Cursor<'a> {
         there
     }
 
+    /// Takes a plus or a minus, if there is one, as 1 or -1.
+    pub fn plus_or_minus(&mut self) -> i64 {
+        match self.take("-") {
+            true => -1,
+            false => {
+                self.take("+");
+                1
+            }
+        }
+    }
+
     /// Takes this sign or keyword, which is due.
     pub fn due(&mut self, text: &str) -> Result<(), Fault> {
         match self.take(text) {

@@ -72,10 +72,7 @@ impl Sum {
     fn read(cursor: &mut Cursor, variables: &[String]) -> Result<Sum, Fault> {
         let mut sum = Sum::new(cursor.column());
         loop {
-            let sign = if cursor.take("-") { -1 } else { 1 };
-            if sign == 1 {
-                cursor.take("+");
-            }
+            let sign = cursor.plus_or_minus();
             sum.term(sign, cursor, variables)?;
             if !cursor.is("+") && !cursor.is("-") {
                 return Ok(sum);
@@ -109,7 +106,7 @@ impl Sum {
     fn row(&self, cursor: &Cursor) -> Result<Row, Fault> {
         let outside = |what: &str, number: i64, limit: i64, column: usize| {
             let (number, limit) = (thousands(number), thousands(limit));
-            let message = format!("{what} {number}, allowed are -{limit} to {limit}");
+            let message = format!("{what} {number} in the row, allowed are -{limit} to {limit}");
             Err(cursor.fault(column, message))
         };
         let large = |&(_, c): &(usize, i64)| c.abs() > COEFFICIENT;
