@@ -5,6 +5,7 @@
 //! | Module | Holds |
 //! |---|---|
 //! | `tableau` | the simplex method on an integer tableau: the point at which the least of some rows is largest |
+//! | `wide` | products of 256 bits, for its pivots |
 //! | `refute` | multipliers from the duals of that |
 //! | `bounds` | ranges made narrower by single rows |
 //! | `state` | whole-number states, by branch and bound |
@@ -13,6 +14,7 @@ mod bounds;
 mod refute;
 mod state;
 mod tableau;
+mod wide;
 
 pub use refute::{refute, Refutation};
 pub use state::{state, Found};
@@ -41,3 +43,6 @@ fn gcd(a: i128, b: i128) -> i128 {
         gcd(b, a % b)
     }
 }
+
+#[cfg(test)]
+mod tests;

@@ -19,7 +19,7 @@ const MOST: usize = 2_000;
 /// How many of the rows that fail at a point are taken up at once.
 const TAKEN: usize = 4;
 /// Points with larger denominators are not rounded.
-const LARGE: i128 = 1 << 100;
+const LARGE: i128 = 1 << 112;
 
 /// A point with a common denominator.
 struct Point {

@@ -1,5 +1,6 @@
 //! The simplex method on an integer tableau, without fractions: all entries have one common denominator, the last pivot, and each
 //! division is exact, since entries are minors of the first tableau. Bland's rule picks the pivots, so that it comes to an end.
+use super::wide::{crossed, Wide};
 use crate::show::rows::{Range, Row};
 
 /// Where the least of some rows is largest over the ranges.
@@ -31,26 +32,16 @@ impl Tableau {
             .min_by_key(|&column| self.columns[column])
     }
 
-    /// The row that is the first to bind as the column's variable grows; of equal ones that of the lowest variable. None where
-    /// a number leaves 128 bits: the objective is bounded.
+    /// The row that is the first to bind as the column's variable grows; of equal ones that of the lowest variable. There is one: the
+    /// objective is bounded.
     fn leaving(&self, column: usize) -> Option<usize> {
         let last = self.columns.len();
-        let mut best: Option<usize> = None;
-        for row in (1..self.cells.len()).filter(|&row| self.cells[row][column] > 0) {
-            let Some(old) = best else {
-                best = Some(row);
-                continue;
-            };
-            let (a, b) = (&self.cells[row], &self.cells[old]);
-            let (a, b) = (
-                a[last].checked_mul(b[column])?,
-                b[last].checked_mul(a[column])?,
-            );
-            if a < b || a == b && self.basis[row - 1] < self.basis[old - 1] {
-                best = Some(row);
-            }
-        }
-        best
+        let binds = |&row: &usize| self.cells[row][column] > 0;
+        (1..self.cells.len()).filter(binds).min_by(|&one, &other| {
+            let (a, b) = (&self.cells[one], &self.cells[other]);
+            let ratios = Wide::product(a[last], b[column]).cmp(&Wide::product(b[last], a[column]));
+            ratios.then(self.basis[one - 1].cmp(&self.basis[other - 1]))
+        })
     }
 
     /// None where a number leaves 128 bits.
@@ -60,8 +51,7 @@ impl Tableau {
         for (_, cells) in self.cells.iter_mut().enumerate().filter(|&(k, _)| k != row) {
             let factor = cells[column];
             for (k, cell) in cells.iter_mut().enumerate().filter(|&(k, _)| k != column) {
-                let cross = factor.checked_mul(source[k])?;
-                *cell = cell.checked_mul(pivot)?.checked_sub(cross)? / self.denominator;
+                *cell = crossed([*cell, pivot, factor, source[k]], self.denominator)?;
             }
             cells[column] = factor.checked_neg()?;
         }
