@@ -2,6 +2,9 @@
 //! that an answer does not use are 0. No answer is 0, and a number that is not named here permits nothing. There is no
 //! `Default`: a record comes from a call.
 
+/// The version, as a number: major times 1,000,000, minor times 1,000, and patch.
+pub const BNV_VERSION_NUMBER: u32 = 8000;
+
 /// The kinds of words.
 pub const BNV_DISTANCE: u32 = 0;
 pub const BNV_VAR: u32 = 1;
@@ -19,6 +22,30 @@ pub const BNV_EDGE: u32 = 12;
 pub const BNV_STEP: u32 = 13;
 pub const BNV_FINDING: u32 = 14;
 pub const BNV_END: u32 = 15;
+
+/// Limits of a logic and its lemmas.
+pub const BNV_MOST_VARIABLES: u32 = 8;
+pub const BNV_MOST_START_ROWS: u32 = 8;
+pub const BNV_MOST_PREDICATES: u32 = 14;
+pub const BNV_MOST_GUARD_ROWS: u32 = 8;
+pub const BNV_MOST_ASSIGNMENTS: u32 = 8;
+pub const BNV_MOST_FORBIDDEN: u32 = 8;
+pub const BNV_MOST_LEMMAS: u32 = 512;
+pub const BNV_MOST_MULTIPLIER: u32 = 65535;
+pub const BNV_LOWEST: i32 = -8192;
+pub const BNV_HIGHEST: i32 = 8191;
+pub const BNV_LEAST_CONSTANT: i32 = -1000000;
+pub const BNV_MOST_CONSTANT: i32 = 1000000;
+pub const BNV_LEAST_COEFFICIENT: i32 = -1000;
+pub const BNV_MOST_COEFFICIENT: i32 = 1000;
+
+/// The source of a lemma that is the start, and the goals.
+pub const BNV_START: u32 = 255;
+pub const BNV_GOAL_NEVER: u32 = 0;
+pub const BNV_GOAL_HOLDS: u32 = 1;
+pub const BNV_GOAL_FAILS: u32 = 2;
+pub const BNV_GOAL_LOW: u32 = 3;
+pub const BNV_GOAL_HIGH: u32 = 4;
 
 /// The most nodes of a graph and actions of a program, and the words of a node's record before its EDGE words.
 pub const BNV_MOST_NODES: u32 = 512;
@@ -166,6 +193,8 @@ pub struct BnvSuccessor {
 // A slice crosses as two arguments, pointer and length. Declared as `&[u32]` it would cross as one value of two words,
 // which lies elsewhere once the registers are used up, as they are in bnv_judge.
 extern "C" {
+    fn bnv_version() -> u32;
+
     fn bnv_check(words: *const u32, words_length: usize) -> BnvCheck;
 
     fn bnv_action_part(words: *const u32, words_length: usize, k: usize) -> BnvPart;
@@ -238,6 +267,10 @@ extern "C" {
 }
 
 // Each call asks nothing of its lists and numbers but what a slice keeps, and keeps nothing itself: so each is safe.
+
+pub fn version() -> u32 {
+    unsafe { bnv_version() }
+}
 
 pub fn check(words: &[u32]) -> BnvCheck {
     unsafe { bnv_check(words.as_ptr(), words.len()) }
