@@ -96,31 +96,12 @@ pub fn presses(path: &[Step]) -> String {
 }
 
 pub fn safe(judgement: Judgement) -> String {
-    let (nodes, edges) = (judgement.nodes, judgement.edges);
-    format!("safe: nodes {nodes}, edges {edges}")
+    judgement.to_string()
 }
 
 /// A finding in words, with the actions that lead to its node.
 pub fn sentence(finding: Finding, presses: &str) -> String {
-    match finding {
-        Finding::MayForbid { node, combination } => {
-            format!(
-                "may meet forbidden combination {combination} at node {node}; actions:{presses}"
-            )
-        }
-        Finding::MayRunOff {
-            node,
-            action,
-            variable,
-            end,
-        } => {
-            let way = match end {
-                End::Low => "below its low end",
-                End::High => "above its high end",
-            };
-            format!("action {action} may take variable {variable} {way} at node {node}; actions:{presses}")
-        }
-    }
+    format!("{finding}; actions:{presses}")
 }
 
 #[cfg(test)]
