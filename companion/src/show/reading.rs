@@ -4,18 +4,10 @@ use super::fault::{stray, thousands, Fault, List, Place, Rule};
 use super::model::*;
 use super::rows::{Range, Row, VARIABLES};
 use bulanevior::raw::*;
-use bulanevior::{kind, payload, MOST_ACTIONS};
+use bulanevior::{kind, payload, word, MOST_ACTIONS};
 
-/// A field of a word, signed, in two's complement.
-fn signed(word: u32, high: u32, low: u32) -> i64 {
-    let width = high - low + 1;
-    i64::from(((word << (31 - high)) as i32) >> (32 - width))
-}
-
-/// A field of a word that is a number.
-fn field(word: u32, high: u32, low: u32) -> usize {
-    (word >> low & ((2u32 << (high - low)).wrapping_sub(1))) as usize
-}
+/// The source that is the start.
+const START: usize = BNV_START as usize;
 
 /// A list of words that is read from its front.
 struct Reader<'a> {
@@ -119,7 +111,7 @@ impl Reader<'_> {
     /// A ROW and its TERMs.
     fn row(&mut self, variables: usize, place: Place) -> Result<Row, Fault> {
         let word = self.see(BNV_ROW, format!("the ROW of {place}"))?;
-        let constant = signed(word, 27, 0);
+        let constant = i64::from(word::row_constant(word));
         self.within("constant", constant, CONSTANT, place)?;
         let mut row = Row::constant(constant);
         let mut least = 0;
@@ -137,7 +129,10 @@ impl Reader<'_> {
     fn term(&self, least: usize, variables: usize, place: Place) -> Result<(usize, i64), Fault> {
         let word = self.words[self.at];
         self.clean(word, 0x00FF_0000, BNV_REFUSED_WORD, place)?;
-        let (variable, coefficient) = (field(word, 27, 24), signed(word, 15, 0));
+        let (variable, coefficient) = (
+            word::term_variable(word),
+            i64::from(word::term_coefficient(word)),
+        );
         self.rising(variable, least, variables, place)?;
         self.within("coefficient", coefficient, COEFFICIENT, place)?;
         if coefficient == 0 {
@@ -155,7 +150,7 @@ impl Reader<'_> {
         variables: usize,
         (all, each): (Place, fn(usize) -> Place),
     ) -> Result<Vec<Row>, Fault> {
-        let count = field(self.see(wanted, what)?, 27, 0);
+        let count = payload(self.see(wanted, what)?) as usize;
         if count > most {
             let why = format!(
                 "it counts {}, allowed are 0 to {most}",
@@ -176,7 +171,7 @@ impl Reader<'_> {
                 let why = format!("one too many, allowed are {VARIABLES}");
                 return Err(self.wrong(BNV_REFUSED_LIMIT, place, why));
             }
-            let (low, high) = (signed(word, 27, 14), signed(word, 13, 0));
+            let [low, high] = [word::var_low(word), word::var_high(word)].map(i64::from);
             if low > high {
                 let (low, high) = (thousands(low), thousands(high));
                 let why = format!("the low end {low} is above the high end {high}");
@@ -197,7 +192,10 @@ impl Reader<'_> {
         if action == MOST_ACTIONS {
             return limit(format!("one too many, allowed are {MOST_ACTIONS}"));
         }
-        let (guards, sets) = (field(word, 7, 4), field(word, 3, 0));
+        let (guards, sets) = (
+            word::action_guard_rows(word),
+            word::action_assignments(word),
+        );
         for (count, what) in [(guards, "guard rows"), (sets, "assignments")] {
             if count > ROWS {
                 return limit(format!("it counts {count} {what}, allowed are 0 to {ROWS}"));
@@ -219,7 +217,7 @@ impl Reader<'_> {
             let place = Place::Assignment { action, number };
             let least = found.sets.last().map_or(0, |&(variable, _)| variable + 1);
             let word = self.see(BNV_SET, format!("the SET of {place}"))?;
-            let variable = field(word, 27, 0);
+            let variable = payload(word) as usize;
             self.rising(variable, least, variables, place)?;
             self.take();
             found.sets.push((variable, self.row(variables, place)?));
@@ -229,7 +227,7 @@ impl Reader<'_> {
 
     /// The literals of a SETS word.
     fn literals(&self, predicates: usize, number: u32, place: Place) -> Result<Literals, Fault> {
-        let literals = Literals::of(payload(self.words[self.at]));
+        let literals = Literals::of(self.words[self.at]);
         let both = literals.holds & literals.fails;
         let why = match literals.each().find(|&(p, _)| p >= predicates) {
             Some((p, _)) => {
@@ -304,10 +302,14 @@ impl Reader<'_> {
         if let Some(why) = stray(word, 0x0000_FF00) {
             return Err(why);
         }
-        let (source, goal, index) = (field(word, 27, 20), field(word, 19, 16), field(word, 7, 0));
+        let (source, goal, index) = (
+            word::lemma_source(word),
+            word::lemma_goal(word),
+            word::lemma_index(word),
+        );
         let actions = logic.actions.len();
         let source = match source {
-            255 => Source::Start,
+            START => Source::Start,
             k if k < actions => Source::Action(k),
             k => {
                 let known = format!("and the logic has {actions} actions, counted from 0");
@@ -315,11 +317,11 @@ impl Reader<'_> {
             }
         };
         let goal = match goal {
-            0 => Goal::Never,
-            1 => Goal::Holds(index),
-            2 => Goal::Fails(index),
-            3 => Goal::Low(index),
-            4 => Goal::High(index),
+            BNV_GOAL_NEVER => Goal::Never,
+            BNV_GOAL_HOLDS => Goal::Holds(index),
+            BNV_GOAL_FAILS => Goal::Fails(index),
+            BNV_GOAL_LOW => Goal::Low(index),
+            BNV_GOAL_HIGH => Goal::High(index),
             n => return Err(format!("goal {n}, allowed are 0 to 4")),
         };
         let (_, sets) = logic.source(source);

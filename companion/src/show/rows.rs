@@ -1,7 +1,7 @@
 //! Rows and ranges: what a row is worth at a state, its negation, its largest value over the ranges, and a row afterwards.
 
 /// The most variables of a logic.
-pub const VARIABLES: usize = 8;
+pub const VARIABLES: usize = bulanevior::MOST_VARIABLES;
 
 /// The values that a variable may have, both ends with them.
 #[derive(Clone, Copy, Debug, PartialEq, Eq)]
