@@ -59,46 +59,42 @@ fn press(told: &Told, number: usize, step: &Step) -> Result<Vec<String>, String>
 /// What is found at the end of the way.
 fn reached(told: &Told, finding: Finding) -> Vec<String> {
     match finding {
-        Finding::MayForbid { combination, .. } => {
-            let all = told.show.logic.forbidden[combination];
-            let mut lines = vec![format!(
-                "  there nothing contradicts forbidden combination {combination}: {}",
-                text::literals(all, told.names)
-            )];
-            lines.extend(all.each().map(|(p, _)| {
-                let row = text::row(&told.show.logic.predicates[p], told.names);
-                format!("      {}: {row}", told.names.predicates[p])
-            }));
-            lines
-        }
+        Finding::MayForbid { combination, .. } => met(told, combination),
         Finding::MayRunOff {
             action,
             variable,
             end,
             ..
-        } => {
-            let range = told.show.logic.ranges[variable];
-            let (goal, way) = match end {
-                End::Low => (
-                    Goal::Low(variable),
-                    format!("below {}", thousands(range.low)),
-                ),
-                End::High => (
-                    Goal::High(variable),
-                    format!("above {}", thousands(range.high)),
-                ),
-            };
-            let name = &told.names.variables[variable];
-            let mut lines = vec![format!(
-                "  there {} may take {name} {way}:",
-                told.action(action)
-            )];
-            lines.extend(rows(told, action));
-            let wanted = text::lemma_head(Source::Action(action), goal, told.names);
-            lines.push(format!(
-                "    no accepted lemma that applies there shows: {wanted}"
-            ));
-            lines
-        }
+        } => ran_off(told, action, variable, end),
     }
+}
+
+/// A forbidden combination, with the rows of its predicates.
+fn met(told: &Told, combination: usize) -> Vec<String> {
+    let all = told.show.logic.forbidden[combination];
+    let said = text::literals(all, told.names);
+    let head = format!("  there nothing contradicts forbidden combination {combination}: {said}");
+    let row = |(p, _)| {
+        let row = text::row(&told.show.logic.predicates[p], told.names);
+        format!("      {}: {row}", told.names.predicates[p])
+    };
+    std::iter::once(head).chain(all.each().map(row)).collect()
+}
+
+/// An action that may pass an end, with its guard and assignments, and the lemma that would rule it out.
+fn ran_off(told: &Told, action: usize, variable: usize, end: End) -> Vec<String> {
+    let range = told.show.logic.ranges[variable];
+    let (goal, way, past) = match end {
+        End::Low => (Goal::Low(variable), "below", range.low),
+        End::High => (Goal::High(variable), "above", range.high),
+    };
+    let (name, past) = (&told.names.variables[variable], thousands(past));
+    let press = told.action(action);
+    let mut lines = vec![format!("  there {press} may take {name} {way} {past}:")];
+    lines.extend(rows(told, action));
+    let wanted = text::lemma_head(Source::Action(action), goal, told.names);
+    lines.push(format!(
+        "    no accepted lemma that applies there shows: {wanted}"
+    ));
+    lines
 }

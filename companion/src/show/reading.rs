@@ -6,11 +6,8 @@ use super::rows::{Range, Row, VARIABLES};
 use bulanevior::raw::*;
 use bulanevior::{kind, payload, word, MOST_ACTIONS};
 
-/// The source that is the start.
-const START: usize = BNV_START as usize;
-
 /// A list of words that is read from its front.
-struct Reader<'a> {
+pub struct Reader<'a> {
     words: &'a [u32],
     at: usize,
     list: List,
@@ -20,7 +17,17 @@ struct Reader<'a> {
     open: Option<Place>,
 }
 
-impl Reader<'_> {
+impl<'a> Reader<'a> {
+    fn new(words: &'a [u32], list: List, before: usize) -> Reader<'a> {
+        Reader {
+            words,
+            at: 0,
+            list,
+            before,
+            open: None,
+        }
+    }
+
     fn next(&self) -> Option<u32> {
         self.words.get(self.at).copied()
     }
@@ -54,19 +61,19 @@ impl Reader<'_> {
         self.fault(number, Rule::Due(format!("{more}{what}")))
     }
 
-    fn wrong(&self, number: u32, place: Place, why: impl Into<String>) -> Fault {
+    pub fn wrong(&self, number: u32, place: Place, why: impl Into<String>) -> Fault {
         self.fault(number, Rule::Wrong(place, why.into()))
     }
 
     /// The next word, which has to be of this kind; it is taken only by `take`.
-    fn see(&self, wanted: u32, what: impl std::fmt::Display) -> Result<u32, Fault> {
+    pub fn see(&self, wanted: u32, what: impl std::fmt::Display) -> Result<u32, Fault> {
         match self.next() {
             Some(word) if kind(word) == wanted => Ok(word),
             _ => Err(self.due(what)),
         }
     }
 
-    fn take(&mut self) {
+    pub fn take(&mut self) {
         self.at += 1;
         self.open = None;
     }
@@ -226,7 +233,12 @@ impl Reader<'_> {
     }
 
     /// The literals of a SETS word.
-    fn literals(&self, predicates: usize, number: u32, place: Place) -> Result<Literals, Fault> {
+    pub fn literals(
+        &self,
+        predicates: usize,
+        number: u32,
+        place: Place,
+    ) -> Result<Literals, Fault> {
         let literals = Literals::of(self.words[self.at]);
         let both = literals.holds & literals.fails;
         let why = match literals.each().find(|&(p, _)| p >= predicates) {
@@ -296,138 +308,23 @@ impl Reader<'_> {
             forbidden,
         })
     }
-
-    /// What a LEMMA word says, or what is wrong with it.
-    fn heading(&self, word: u32, logic: &Logic) -> Result<(Source, Goal), String> {
-        if let Some(why) = stray(word, 0x0000_FF00) {
-            return Err(why);
-        }
-        let (source, goal, index) = (
-            word::lemma_source(word),
-            word::lemma_goal(word),
-            word::lemma_index(word),
-        );
-        let actions = logic.actions.len();
-        let source = match source {
-            START => Source::Start,
-            k if k < actions => Source::Action(k),
-            k => {
-                let known = format!("and the logic has {actions} actions, counted from 0");
-                return Err(format!("source {k} is neither an action, {known}, nor 255"));
-            }
-        };
-        let goal = match goal {
-            BNV_GOAL_NEVER => Goal::Never,
-            BNV_GOAL_HOLDS => Goal::Holds(index),
-            BNV_GOAL_FAILS => Goal::Fails(index),
-            BNV_GOAL_LOW => Goal::Low(index),
-            BNV_GOAL_HIGH => Goal::High(index),
-            n => return Err(format!("goal {n}, allowed are 0 to 4")),
-        };
-        let (_, sets) = logic.source(source);
-        let known = logic.predicates.len();
-        match goal {
-            Goal::Never if index != 0 => {
-                Err(format!("goal 0 with index {index}, which has to be 0"))
-            }
-            Goal::Holds(p) | Goal::Fails(p) if p >= known => Err(format!(
-                "predicate {p}, and the logic has {known}, counted from 0"
-            )),
-            Goal::Low(_) | Goal::High(_) if source == Source::Start => {
-                Err("goals 3 and 4 speak of an action, and the source is the start".into())
-            }
-            Goal::Low(v) | Goal::High(v) if sets.iter().all(|&(set, _)| set != v) => {
-                Err(format!("its source does not set variable {v}"))
-            }
-            _ => Ok((source, goal)),
-        }
-    }
-
-    fn lemma(&mut self, number: usize, logic: &Logic) -> Result<Lemma, Fault> {
-        let place = Place::Lemma(number);
-        let word = self.see(BNV_LEMMA, format!("the LEMMA of {place} or the end"))?;
-        if number == LEMMAS {
-            let why = format!("one too many, allowed are {LEMMAS}");
-            return Err(self.wrong(BNV_REFUSED_LEMMAS, place, why));
-        }
-        let heading = self.heading(word, logic);
-        let (source, goal) = heading.map_err(|why| self.wrong(BNV_REFUSED_LEMMA, place, why))?;
-        self.take();
-        self.see(BNV_SETS, format!("the SETS of {place}"))?;
-        let premises = self.literals(logic.predicates.len(), BNV_REFUSED_LEMMA, place)?;
-        if source == Source::Start && !premises.is_empty() {
-            let why = "a lemma of the start has no premises";
-            return Err(self.wrong(BNV_REFUSED_LEMMA, place, why));
-        }
-        self.take();
-        let multipliers = multiplied(number, logic, source, goal, premises)
-            .into_iter()
-            .map(|row| self.multiplier(row))
-            .collect::<Result<_, _>>()?;
-        Ok(Lemma {
-            source,
-            goal,
-            premises,
-            multipliers,
-        })
-    }
-
-    fn multiplier(&mut self, row: Place) -> Result<i64, Fault> {
-        let word = self.see(BNV_MULT, format!("the MULT of {row}"))?;
-        let multiplier = i64::from(payload(word));
-        if multiplier > MULTIPLIER {
-            let (found, most) = (thousands(multiplier), thousands(MULTIPLIER));
-            let why = format!("multiplier {found}, allowed are 0 to {most}");
-            return Err(self.wrong(BNV_REFUSED_LEMMA, row, why));
-        }
-        self.take();
-        Ok(multiplier)
-    }
-}
-
-/// The rows that a lemma multiplies, in their order.
-fn multiplied(
-    lemma: usize,
-    logic: &Logic,
-    source: Source,
-    goal: Goal,
-    premises: Literals,
-) -> Vec<Place> {
-    let negated = (goal != Goal::Never).then_some(Place::NegatedGoal { lemma });
-    let premise = |(predicate, _)| Place::Premise { lemma, predicate };
-    let rows = (0..logic.source(source).0.len()).map(|row| Place::SourceRow { lemma, row });
-    let goal = negated.into_iter().chain(premises.each().map(premise));
-    goal.chain(rows).collect()
 }
 
 /// A logic, or the first word at fault.
 pub fn logic(words: &[u32]) -> Result<Logic, Fault> {
-    Reader {
-        words,
-        at: 0,
-        list: List::Logic,
-        before: 0,
-        open: None,
-    }
-    .logic()
+    Reader::new(words, List::Logic, 0).logic()
 }
 
 /// A logic and its lemmas, or the first word at fault.
 pub fn show(words: &[u32], lemmas: &[u32]) -> Result<Show, Fault> {
-    let logic = logic(words)?;
-    let mut reader = Reader {
-        words: lemmas,
-        at: 0,
-        list: List::Lemmas,
-        before: words.len(),
-        open: None,
+    let mut show = Show {
+        logic: logic(words)?,
+        lemmas: Vec::new(),
     };
-    let mut found = Vec::new();
+    let mut reader = Reader::new(lemmas, List::Lemmas, words.len());
     while reader.at < lemmas.len() {
-        found.push(reader.lemma(found.len(), &logic)?);
+        let lemma = reader.lemma(show.lemmas.len(), &show.logic)?;
+        show.lemmas.push(lemma);
     }
-    Ok(Show {
-        logic,
-        lemmas: found,
-    })
+    Ok(show)
 }
