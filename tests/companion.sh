@@ -134,6 +134,9 @@ for text in shows/*.text; do
     prints "$companion" findings "$text"
     "$companion" words <"$text" | cmp - "${text%.text}.words" || fail "$text: other words"
 done
+sed -n '/^```text$/,/^```$/{//!p}' docs/TEXT.md >"$room/documented"
+echo 'safe: nodes 3, edges 10' >"$room/expected"
+prints "$companion" findings "$room/documented"
 "$companion" draw shows/house.text | cmp - docs/house.svg || fail "draw shows/house.text: another picture than of its words"
 # A fault is said by line and column: where findings are asked for on standard output, else on standard error.
 sed 's/^    house := 1$/    hose := 1/' shows/house.text >"$room/faulty"
