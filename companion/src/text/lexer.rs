@@ -166,19 +166,28 @@ impl<'a> Cursor<'a> {
         }
     }
 
-    /// Takes a name.
-    pub fn name(&mut self, what: &str) -> Result<&'a str, Fault> {
-        match self.next() {
-            Some(Token {
-                kind: Kind::Name,
-                text,
-                ..
-            }) => {
-                self.skip();
-                Ok(text)
-            }
-            _ => Err(self.expected(what)),
-        }
+    /// Takes a name if there is one.
+    pub fn name(&mut self) -> Option<&'a str> {
+        let token = self.next().filter(|token| token.kind == Kind::Name)?;
+        self.skip();
+        Some(token.text)
+    }
+
+    /// Takes one of these names, and gives its place; or else this is expected.
+    pub fn one_of(
+        &mut self,
+        names: &[String],
+        what: &str,
+        expected: impl Fn() -> String,
+    ) -> Result<usize, Fault> {
+        let column = self.column();
+        let name = self.name();
+        let name = name.ok_or_else(|| self.expected(&expected()))?;
+        let found = names.iter().position(|known| known == name);
+        found.ok_or_else(|| {
+            let message = format!("`{name}` is no {what}; expected {}", expected());
+            self.fault(column, message)
+        })
     }
 
     /// Takes a number if there is one.

@@ -1,5 +1,5 @@
 //! Sums and rows in a text.
-use super::fault::{alternatives, quoted, Fault};
+use super::fault::{alternatives, Fault};
 use super::lexer::{Cursor, Kind};
 use crate::show::fault::thousands;
 use crate::show::model::{COEFFICIENT, CONSTANT};
@@ -25,18 +25,9 @@ pub enum Rows {
 
 /// The number of a variable that is expected.
 pub fn variable(cursor: &mut Cursor, variables: &[String]) -> Result<usize, Fault> {
-    let known = match variables {
+    cursor.one_of(variables, "variable", || match variables {
         [] => "a variable, and none is declared above".to_string(),
         _ => format!("one of {}", variables.join(", ")),
-    };
-    let column = cursor.column();
-    let name = cursor.name(&known)?;
-    let found = variables.iter().position(|variable| variable == name);
-    found.ok_or_else(|| {
-        cursor.fault(
-            column,
-            format!("{} is no variable; expected {known}", quoted(name)),
-        )
     })
 }
 
