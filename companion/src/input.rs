@@ -13,12 +13,13 @@ pub struct Input {
     pub names: Option<Names>,
 }
 
-/// Is a file a text? Words that are a show are none: the fourth byte of a VAR word is 16 to 31.
+/// Is a file a text? Words that are a show are none: the fourth byte of a VAR word is 16 to 31. What begins as a text and is no UTF-8
+/// further on is one too, so that its fault can be named.
 fn is_text(bytes: &[u8]) -> bool {
     let control = |byte: &u8| *byte < b' ' && !b"\t\n\r".contains(byte);
-    let starts =
-        bytes.first().is_some_and(u8::is_ascii) || bytes.starts_with("\u{FEFF}".as_bytes());
-    starts && !bytes.iter().any(control)
+    let begins = bytes.first().is_some_and(u8::is_ascii);
+    let whole = !bytes.is_empty() && std::str::from_utf8(bytes).is_ok();
+    (begins || whole) && !bytes.iter().any(control)
 }
 
 /// What is in a file, or the first place at which its text is at fault.
@@ -79,6 +80,7 @@ mod tests {
     fn what_is_no_text() {
         let none = "the text ends; expected a variable";
         assert_eq!(refused(b"\n"), format!("line 2, column 1: {none}"));
+        assert!(refused("ü".as_bytes()).starts_with("line 1, column 1: `ü` has no meaning here"));
         let latin = b"variable x 0 to 1\n# B\xFChne\n";
         assert_eq!(refused(latin), "line 2, column 4: a byte that is no UTF-8");
         let long = [b"variable x 0 to 1\n#", vec![b'x'; BYTES].as_slice()].concat();

@@ -1,5 +1,5 @@
 //! Literals and lemmas in a text.
-use super::fault::{alternatives, quoted, Fault};
+use super::fault::{alternatives, Fault};
 use super::lexer::Cursor;
 use super::sums::variable;
 use super::writer;
@@ -9,16 +9,10 @@ use crate::show::names::Names;
 
 /// The number of a predicate that is expected.
 fn predicate(cursor: &mut Cursor, names: &Names) -> Result<usize, Fault> {
-    let known = match names.predicates.as_slice() {
+    let known = names.predicates.as_slice();
+    cursor.one_of(known, "predicate", || match known {
         [] => "a predicate, and none is declared above".to_string(),
-        all => format!("one of {}", all.join(", ")),
-    };
-    let column = cursor.column();
-    let name = cursor.name(&known)?;
-    let found = names.predicates.iter().position(|known| known == name);
-    found.ok_or_else(|| {
-        let message = format!("{} is no predicate; expected {known}", quoted(name));
-        cursor.fault(column, message)
+        _ => format!("one of {}", known.join(", ")),
     })
 }
 
@@ -53,16 +47,12 @@ fn source(cursor: &mut Cursor, names: &Names) -> Result<Source, Fault> {
     if cursor.take("start") {
         return Ok(Source::Start);
     }
-    let mut known = vec!["`start`".to_string()];
-    known.extend_from_slice(&names.actions);
-    let known = alternatives(&known);
-    let column = cursor.column();
-    let name = cursor.name(&known)?;
-    let found = names.actions.iter().position(|action| action == name);
-    found.map(Source::Action).ok_or_else(|| {
-        let message = format!("{} is no action; expected {known}", quoted(name));
-        cursor.fault(column, message)
-    })
+    let action = cursor.one_of(&names.actions, "action", || {
+        let mut known = vec!["`start`".to_string()];
+        known.extend_from_slice(&names.actions);
+        alternatives(&known)
+    })?;
+    Ok(Source::Action(action))
 }
 
 fn goal(cursor: &mut Cursor, names: &Names) -> Result<Goal, Fault> {
@@ -158,17 +148,15 @@ impl Multipliers<'_> {
             return self.row(cursor);
         }
         let column = cursor.column();
-        let not = if cursor.take("not") { "not " } else { "" };
-        let name = cursor.name(&self.known(or))?;
-        let written = format!("{not}{name}");
-        let given = |(p, holds)| writer::literal(p, holds, self.names) == written;
+        let holds = !cursor.take("not");
+        let name = cursor.name();
+        let name = name.ok_or_else(|| cursor.expected(&self.known(or)))?;
+        let given = |(p, found): (usize, bool)| found == holds && self.names.predicates[p] == name;
         let place = self.premises.each().position(given);
         place.map(|place| self.goals() + place).ok_or_else(|| {
-            let known = self.known(&[]);
-            cursor.fault(
-                column,
-                format!("`{written}` is not given; expected {known}"),
-            )
+            let (not, known) = (if holds { "" } else { "not " }, self.known(&[]));
+            let message = format!("`{not}{name}` is not given; expected {known}");
+            cursor.fault(column, message)
         })
     }
 

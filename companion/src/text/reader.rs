@@ -40,7 +40,8 @@ impl Reader {
     /// A name that is not taken yet.
     fn fresh(&self, cursor: &mut Cursor) -> Result<String, Fault> {
         let column = cursor.column();
-        let name = cursor.name("a name")?;
+        let name = cursor.name();
+        let name = name.ok_or_else(|| cursor.expected("a name"))?;
         let sorts = [
             (&self.names.variables, "a variable"),
             (&self.names.predicates, "a predicate"),

@@ -30,7 +30,7 @@ fn texts_with_a_character_changed() {
         };
         for (place, found) in text.char_indices().step_by(step) {
             let (before, behind) = (&text[..place], &text[place + found.len_utf8()..]);
-            let others = ["", "9", "-", "x", " ", "\n", "=", "ü", "#"];
+            let others = ["", "9", "-", "x", "\n", "ü"];
             let mut all: Vec<String> = others
                 .iter()
                 .map(|other| format!("{before}{other}{behind}"))

@@ -177,6 +177,10 @@ fn rows() {
             "24: coefficient 1,001 in the row, allowed are -1,000 to 1,000",
         ),
         (
+            "start level - 1000001 >= house",
+            "15: constant -1,000,001 in the row, allowed are -1,000,000 to 1,000,000",
+        ),
+        (
             "start level <= 1000001",
             "16: constant 1,000,001 in the row, allowed are -1,000,000 to 1,000,000",
         ),
