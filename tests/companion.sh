@@ -10,7 +10,7 @@ cd "$(dirname "$(readlink -f "$0")")/.."
 export room=$(mktemp -d)
 trap 'rm -rf "$room"' EXIT
 library=target/staticlib/libexports.a
-export CARGO_TARGET_DIR=$room/cargo companion=$room/cargo/release/bulanevior example=$room/findings
+export companion=$PWD/target/companion/release/bulanevior example=$room/findings
 
 fail() { # LINE
     echo "$1"
@@ -27,10 +27,9 @@ printf '%s\n' '#define main found' '#include "findings.c"' '#undef main' 'int ma
     'return find_way(3, 1) != -1; }' >"$room/older.c"
 cc $strict "$room/older.c" "$library" -o "$room/older"
 "$room/older" || fail "examples/findings.c: a path in the records of an older library"
-cd companion
-cargo build --release --offline --locked --quiet
-cargo test --release --offline --locked --quiet >"$room/tests" 2>&1 || { cat "$room/tests"; exit 1; }
-cd ..
+./bulanevior help >/dev/null 2>"$room/err" || { cat "$room/err"; exit 1; } # builds where it has to
+(cd companion && BULANEVIOR_LIB=$(readlink -f ../target/staticlib) cargo test --release --offline --locked --quiet --target-dir ../target/companion) >"$room/tests" 2>&1 \
+    || { cat "$room/tests"; exit 1; }
 
 # ---- shows
 
