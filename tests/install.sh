@@ -184,6 +184,13 @@ for call in $(sed -n 's/^[A-Za-z0-9_]* \(bnv_[a-z_]*\)(.*/\1/p' include/bulanevi
     grep -q "^| \`$call\`" $page || fail "$page has no call $call"
 done
 
+# The sizes of the records, as the header's test has them.
+sed -n 's/.*sizeof(\(Bnv[A-Za-z]*\)) == \([0-9][0-9]*\).*/\1 \2/p' tests/header.c >"$room/sizes"
+[ "$(wc -l <"$room/sizes")" -eq 8 ] || fail "tests/header.c has other records"
+while read -r size; do
+    grep -q "\*\*Sizes\*\*.* $size\b" $page || fail "$page has not: $size"
+done <"$room/sizes"
+
 # ---- again, behind DESTDIR, and trouble
 
 before=$(stat -c %i "$moved/bin/bulanevior")
