@@ -3,7 +3,8 @@
 
 Compared are every record's fields and every function's parameters (names, types, order) and result, and every constant BNV_..; a Rattle slice is
 a pointer and a length. The header and raw.rs have the same constants; lib.rt has the answers, the code below it kinds, refusals and limits, and
-words/specs/Limits the other limits. The man page has the header's functions, to the letter but for spaces. The header's macros that take a field out of a word are the bits that the contracts of `words` name. The version
+words/specs/Limits the other limits. The man page has the header's functions, to the letter but for spaces, and the header of
+sentences a case for every answer and every refusal. The header's macros that take a field out of a word are the bits that the contracts of `words` name. The version
 stands in all the files of VERSIONS, and as a number in the three texts. Prints each difference.
 
 The form is looked at too. In the header nothing stands but records, functions, constants and what SHELL names, a constant that is an
@@ -30,7 +31,7 @@ VERSIONS = {
     **{f"{crate}/Cargo.lock": LOCKED for crate in ("wrapper", "companion", "compare", "bench")},
 }
 WORDS = "crates/words/src/lib.rt"
-MANUAL = "docs/man/bulanevior.3"
+MANUAL, SENTENCES = "docs/man/bulanevior.3", "include/bulanevior_text.h"
 # Constants that stand in the code below: a pattern for the end of the name and the number, and the name in the header.
 BELOW = {
     WORDS: [
@@ -393,6 +394,15 @@ def manual_differs(sources, header):
         yield f"{MANUAL}: other functions than the header: {sorted(set(shown) ^ set(header.prototypes))}"
 
 
+def sentences_lack(sources, exported, header):
+    """The answers, which lib.rt has, and the refusals that no sentence is for."""
+    answers = [name for name in exported.constants if name != "BNV_VERSION_NUMBER"]
+    refusals = [name for name in header.constants if name.startswith("BNV_REFUSED_")]
+    for name in answers + refusals:
+        if f"    case {name}:\n" not in sources[SENTENCES]:
+            yield f"{SENTENCES}: no case {name}"
+
+
 def versions(sources):
     """Each version beside the header's: its file, and where it stands."""
     for file, pattern in VERSIONS.items():
@@ -431,6 +441,7 @@ def differences(sources):
     yield from constants_differ(sources, texts)
     yield from fields_differ(sources, texts[1])
     yield from manual_differs(sources, texts[1])
+    yield from sentences_lack(sources, *texts[:2])
     yield from versions_differ(sources, texts[1])
 
 
@@ -444,6 +455,8 @@ def changes(sources):
     for _, _, high, _, (begin, end) in fields(sources):
         if begin >= 0:
             yield WORDS, sources[WORDS][:begin] + str(high + 1) + sources[WORDS][end:]
+    for found in re.finditer(r"    case BNV_\w+:\n", sources[SENTENCES]):
+        yield SENTENCES, sources[SENTENCES][:found.start()] + sources[SENTENCES][found.end():]
     for found in re.finditer(r"\b(?:u?int\d+_t|size_t|Bnv\w+) ", sources[MANUAL]):
         yield MANUAL, sources[MANUAL][:found.start()] + "long " + sources[MANUAL][found.end():]
     for name, _, (begin, end) in versions(sources):
@@ -469,7 +482,7 @@ def unnoticed(sources):
 
 
 def main():
-    sources = {name: (ROOT / name).read_text() for name in (*TEXTS, *BELOW, LIMITS, MANUAL, *VERSIONS)}
+    sources = {name: (ROOT / name).read_text() for name in (*TEXTS, *BELOW, LIMITS, MANUAL, SENTENCES, *VERSIONS)}
     bad = list(differences(sources))
     if not bad:
         noticed, bad = unnoticed(sources)
