@@ -178,7 +178,8 @@ for manual in docs/man/*; do
     fi
 done
 "$moved/bin/bulanevior" help | sed -n 's/^  \([a-z][a-z]*\) .*/\1/p' | sort >"$room/commands"
-sed -n '/^\.SH COMMANDS$/,/^\.SH EXIT STATUS$/s/^\.B \([a-z]*\)$/\1/p' docs/man/bulanevior.1 | sort | diff "$room/commands" - || fail "docs/man/bulanevior.1 has other commands than the companion"
+sed -n '/^\.SH COMMANDS$/,/^\.SH EXIT STATUS$/s/^\.B \([a-z]*\)$/\1/p' docs/man/bulanevior.1 | sort | diff "$room/commands" - \
+    || fail "docs/man/bulanevior.1 has other commands than the companion"
 for call in $(sed -n 's/^[A-Za-z0-9_]* \(bnv_[a-z_]*\)(.*/\1/p' include/bulanevior.h); do
     grep -q "$call(" docs/man/bulanevior.3 || fail "docs/man/bulanevior.3 has no call $call"
     grep -q "^| \`$call\`" $page || fail "$page has no call $call"
