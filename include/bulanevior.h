@@ -33,6 +33,10 @@
  * call has filled is such a record. Ask for the answer that permits (`== BNV_SAFE`), never for the absence of another; a number that
  * is named nowhere below permits nothing either. It means that this header and the library are of different versions: bnv_version() tells,
  * and CHANGELOG.md says which numbers moved.
+ *
+ * ABI: the C convention of x86-64 Linux. Since 0.2.0 no function has changed its arguments, no record its size or the place of a field, and no
+ * number that is an answer its meaning; from one minor version to the next the room of a lent list and what stands in it may.
+ * docs/EMBEDDING.md has the sizes.
  */
 #ifndef BULANEVIOR_H
 #define BULANEVIOR_H

@@ -54,18 +54,26 @@ runs() { # NAME PREFIX
     rm -rf "$folder"
 }
 
+lacks() { # TOOL..
+    local tool
+    for tool; do
+        command -v "$tool" >/dev/null || return 0
+    done
+    return 1
+}
+
 # Every marked line, but for those whose tool is missing, and for pkg-config's under a name with a space.
 all_run() { # PREFIX
-    local name tool
+    local name tools
     for name in $(marked $page run); do
-        tool=cc
+        tools=
         case $name in
-            *pkg-config) tool=pkg-config ;;
-            cmake) tool=cmake ;;
+            *pkg-config) tools=pkg-config ;;
+            cmake) tools="cmake make" ;;
         esac
-        if ! command -v $tool >/dev/null; then
-            echo "install: $name: left out, there is no $tool"
-        elif [ $tool != pkg-config ] || [[ $1 != *' '* ]]; then
+        if lacks $tools; then
+            echo "install: $name: left out, not all is there of: $tools"
+        elif [[ $name != *pkg-config || $1 != *' '* ]]; then
             runs "$name" "$1"
         fi
     done
@@ -169,13 +177,20 @@ for manual in docs/man/*; do
         [ -z "$(groff -man -ww -Tutf8 "$manual" 2>&1 >/dev/null)" ] || { groff -man -ww -Tutf8 "$manual" 2>&1 >/dev/null; fail "$manual"; }
     fi
 done
-for command in $("$moved/bin/bulanevior" help | sed -n 's/^  \([a-z]*\) .*/\1/p'); do
-    grep -q "^\.B $command\$" docs/man/bulanevior.1 || fail "docs/man/bulanevior.1 has no command $command"
-done
+"$moved/bin/bulanevior" help | sed -n 's/^  \([a-z][a-z]*\) .*/\1/p' | sort >"$room/commands"
+sed -n '/^\.SH COMMANDS$/,/^\.SH EXIT STATUS$/s/^\.B \([a-z]*\)$/\1/p' docs/man/bulanevior.1 | sort | diff "$room/commands" - \
+    || fail "docs/man/bulanevior.1 has other commands than the companion"
 for call in $(sed -n 's/^[A-Za-z0-9_]* \(bnv_[a-z_]*\)(.*/\1/p' include/bulanevior.h); do
     grep -q "$call(" docs/man/bulanevior.3 || fail "docs/man/bulanevior.3 has no call $call"
     grep -q "^| \`$call\`" $page || fail "$page has no call $call"
 done
+
+# The sizes of the records, as the header's test has them.
+sed -n 's/.*sizeof(\(Bnv[A-Za-z]*\)) == \([0-9][0-9]*\).*/\1 \2/p' tests/header.c >"$room/sizes"
+[ "$(wc -l <"$room/sizes")" -eq 8 ] || fail "tests/header.c has other records"
+while read -r size; do
+    grep -q "\*\*Sizes\*\*.* $size\b" $page || fail "$page has not: $size"
+done <"$room/sizes"
 
 # ---- again, behind DESTDIR, and trouble
 

@@ -3,7 +3,8 @@
 
 Compared are every record's fields and every function's parameters (names, types, order) and result, and every constant BNV_..; a Rattle slice is
 a pointer and a length. The header and raw.rs have the same constants; lib.rt has the answers, the code below it kinds, refusals and limits, and
-words/specs/Limits the other limits. The header's macros that take a field out of a word are the bits that the contracts of `words` name. The version
+words/specs/Limits the other limits. The man page has the header's functions, to the letter but for spaces, and the header of
+sentences a case for every answer and every refusal. The header's macros that take a field out of a word are the bits that the contracts of `words` name. The version
 stands in all the files of VERSIONS, and as a number in the three texts. Prints each difference.
 
 The form is looked at too. In the header nothing stands but records, functions, constants and what SHELL names, a constant that is an
@@ -30,6 +31,7 @@ VERSIONS = {
     **{f"{crate}/Cargo.lock": LOCKED for crate in ("wrapper", "companion", "compare", "bench")},
 }
 WORDS = "crates/words/src/lib.rt"
+MANUAL, SENTENCES = "docs/man/bulanevior.3", "include/bulanevior_text.h"
 # Constants that stand in the code below: a pattern for the end of the name and the number, and the name in the header.
 BELOW = {
     WORDS: [
@@ -218,7 +220,7 @@ class Text:
         comment = r"/\*.*?\*/" if c else r"//[^\n]*"
         self.plain = re.sub(comment, lambda m: re.sub(r"\S", " ", m[0]), source, flags=re.S)
         self.read, self.stop = (read_c, ";") if c else (read_rust, ",")
-        self.records, self.functions, self.results, self.constants, self.spans = {}, {}, {}, {}, []
+        self.records, self.functions, self.results, self.constants, self.spans, self.prototypes = {}, {}, {}, {}, [], []
         if c:
             self.take_records(r"typedef struct \{(?P<items>[^}]*)\} (?P<name>\w+);", r"\btypedef\b")
             self.take_functions(r"\b(?P<result>\w+) (?P<name>bnv_\w+)\((?P<items>[^)]*)\);", r"\bbnv_\w+")
@@ -269,6 +271,7 @@ class Text:
             self.functions[found["name"]] = list(self.items(found["name"], found, ","))
             self.results[found["name"]] = C_TYPES.get(found["result"], found["result"]), found.span("result")
             self.spans.append(found.span())
+            self.prototypes.append("".join(found[0].split()))
         self.counted("functions", self.functions, anchor)
 
     def take_constants(self, pattern, anchor):
@@ -383,6 +386,23 @@ def constants_differ(sources, texts):
             yield f"constant {name}: " + ", ".join(f"{value} in {text}" for text, value in said.items())
 
 
+def manual_differs(sources, header):
+    """The functions on the man page, without its marks for fonts, are the header's."""
+    synopsis = sources[MANUAL].split("\n.fi\n")[0]
+    shown = re.findall(r"[^;]+;", re.sub(r'[\s"]', "", "".join(re.findall(r"^\.BI (.*)", synopsis, re.M))))
+    if sorted(shown) != sorted(header.prototypes):
+        yield f"{MANUAL}: other functions than the header: {sorted(set(shown) ^ set(header.prototypes))}"
+
+
+def sentences_lack(sources, exported, header):
+    """The answers, which lib.rt has, and the refusals that no sentence is for."""
+    answers = [name for name in exported.constants if name != "BNV_VERSION_NUMBER"]
+    refusals = [name for name in header.constants if name.startswith("BNV_REFUSED_")]
+    for name in answers + refusals:
+        if f"    case {name}:\n" not in sources[SENTENCES]:
+            yield f"{SENTENCES}: no case {name}"
+
+
 def versions(sources):
     """Each version beside the header's: its file, and where it stands."""
     for file, pattern in VERSIONS.items():
@@ -420,6 +440,8 @@ def differences(sources):
             yield f"function {name}: its result is " + ", ".join(f"{value} in {text}" for text, value in said.items())
     yield from constants_differ(sources, texts)
     yield from fields_differ(sources, texts[1])
+    yield from manual_differs(sources, texts[1])
+    yield from sentences_lack(sources, *texts[:2])
     yield from versions_differ(sources, texts[1])
 
 
@@ -433,6 +455,10 @@ def changes(sources):
     for _, _, high, _, (begin, end) in fields(sources):
         if begin >= 0:
             yield WORDS, sources[WORDS][:begin] + str(high + 1) + sources[WORDS][end:]
+    for found in re.finditer(r"    case BNV_\w+:\n", sources[SENTENCES]):
+        yield SENTENCES, sources[SENTENCES][:found.start()] + sources[SENTENCES][found.end():]
+    for found in re.finditer(r"\b(?:u?int\d+_t|size_t|Bnv\w+) ", sources[MANUAL]):
+        yield MANUAL, sources[MANUAL][:found.start()] + "long " + sources[MANUAL][found.end():]
     for name, _, (begin, end) in versions(sources):
         yield name, sources[name][:begin] + "0.0.0" + sources[name][end:]
     for name, old, new in FORMS:
@@ -456,7 +482,7 @@ def unnoticed(sources):
 
 
 def main():
-    sources = {name: (ROOT / name).read_text() for name in (*TEXTS, *BELOW, LIMITS, *VERSIONS)}
+    sources = {name: (ROOT / name).read_text() for name in (*TEXTS, *BELOW, LIMITS, MANUAL, SENTENCES, *VERSIONS)}
     bad = list(differences(sources))
     if not bad:
         noticed, bad = unnoticed(sources)
