@@ -134,7 +134,14 @@ fn said(wanted: Wanted) -> Result<Said, String> {
             let version = concat!("bulanevior ", env!("CARGO_PKG_VERSION"));
             Ok(Said::line(version.to_string(), Status::Good))
         }
-        Wanted::Answer(command, source) => command.answer(file::read(&source)?),
+        Wanted::Answer(command, source) => {
+            let (library, crate_) = (bulanevior::version(), bulanevior::VERSION_NUMBER);
+            if library != crate_ {
+                let versions = format!("version {library}, and not {crate_}");
+                return Err(verdict::mismatch(versions));
+            }
+            command.answer(file::read(&source)?)
+        }
     }
 }
 
