@@ -105,7 +105,7 @@ impl<'a> Cursor<'a> {
                     column,
                 });
             }
-            column += token.chars().count();
+            column += token.len(); // it is ASCII, or the fault
             rest = behind;
         }
         Ok(Cursor {
@@ -126,7 +126,7 @@ impl<'a> Cursor<'a> {
     /// The column of the next token, or the one behind the last.
     pub fn column(&self) -> usize {
         let last = self.tokens.last();
-        let end = last.map_or(1, |last| last.column + last.text.chars().count());
+        let end = last.map_or(1, |last| last.column + last.text.len());
         self.next().map_or(end, |token| token.column)
     }
 
