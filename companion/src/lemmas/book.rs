@@ -20,6 +20,8 @@ pub struct Book<'a> {
 }
 
 impl Shown for Book<'_> {
+    const SEEKS: bool = true;
+
     fn logic(&self) -> &Logic {
         self.logic
     }

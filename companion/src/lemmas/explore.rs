@@ -5,6 +5,9 @@ use std::collections::{BTreeSet, HashMap, HashSet};
 
 /// What shows goals.
 pub trait Shown {
+    /// Are lemmas looked for? None is, then, for a predicate that is kept: it could only say the opposite, and then the source cannot happen.
+    const SEEKS: bool;
+
     fn logic(&self) -> &Logic;
 
     /// Is a goal shown where these literals are known?
@@ -29,6 +32,8 @@ impl<'a> Listed<'a> {
 }
 
 impl Shown for Listed<'_> {
+    const SEEKS: bool = false;
+
     fn logic(&self) -> &Logic {
         self.logic
     }
@@ -68,20 +73,23 @@ pub fn speaks(literals: Literals, predicate: usize) -> bool {
     (literals.holds | literals.fails) >> predicate & 1 == 1
 }
 
-/// The literals of a predicate behind a source at a node, of those that are followed. Both, where there is no successor.
-fn conjunct(
-    shown: &mut impl Shown,
+/// What is known of a predicate behind a source at a node, of what is followed: that it holds, that it fails. Both, where there is no successor.
+fn conjunct<S: Shown>(
+    shown: &mut S,
     source: Source,
     node: Literals,
     followed: Literals,
     p: usize,
 ) -> (bool, bool) {
-    if speaks(node, p) && !touches(shown.logic(), source, p) {
-        return (node.holds >> p & 1 == 1, node.fails >> p & 1 == 1);
+    let at = |literals: u32| literals >> p & 1 == 1;
+    let kept = !touches(shown.logic(), source, p);
+    let (holds, fails) = (kept && at(node.holds), kept && at(node.fails));
+    if S::SEEKS && (holds || fails) {
+        return (holds, fails);
     }
-    let mut known = |wanted: u32, goal| wanted >> p & 1 == 1 && shown.shows(source, goal, node);
-    let holds = known(followed.holds, Goal::Holds(p));
-    (holds, known(followed.fails, Goal::Fails(p)))
+    let mut is = |wanted: u32, goal| at(wanted) && shown.shows(source, goal, node);
+    let holds = holds || is(followed.holds, Goal::Holds(p));
+    (holds, fails || is(followed.fails, Goal::Fails(p)))
 }
 
 /// The successor of a node: None where there is none.
