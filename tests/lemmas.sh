@@ -72,7 +72,7 @@ lacks() { # NAME LINE
 
 lacks incident "at node 0 (nothing known): a0 keeps v0 low; false at v0 0, where v0 becomes -10"
 lacks bump "at node 1 (p0): a1 keeps v0 high; false at v0 996, v1 1, where v0 becomes 1001"
-lacks shortcut "at node 0 (not p0 and not p1 and not p2): a2 never, against p0 and p1; false at v0 0, v1 0, v2 0"
+lacks shortcut "at node 0 (not p0 and not p1 and not p2), and at 3 more nodes: a2 never, against p0 and p1; false at v0 0, v1 0, v2 0"
 found shows/counter.words 1
 
 # ---- what is no show

@@ -102,18 +102,14 @@ fn both(logic: &Logic, lemmas: &[Lemma]) -> ((usize, bool), (usize, bool)) {
 fn tried(size: Size, seed: u64, count: usize) -> usize {
     let mut dice = Dice(seed);
     let mut safe = 0;
-    let mut worst = std::time::Duration::ZERO;
     for _ in 0..count {
         let logic = size.logic(&mut dice);
         let mut checker = Checker::new(&logic);
-        let at = std::time::Instant::now();
         let lemmas = finder::find(&logic, &mut checker).unwrap();
-        worst = worst.max(at.elapsed());
         let (proved, own) = both(&logic, &lemmas);
         assert_eq!(proved, own, "{logic:?}");
         safe += usize::from(proved.1);
     }
-    println!("{safe} of {count}, worst {worst:?}");
     safe
 }
 
