@@ -6,7 +6,7 @@
  */
 #include <stdio.h>
 
-#include "bulanevior.h"
+#include "bulanevior_text.h"
 
 enum { SAFE = 0, FINDINGS = 1, TROUBLE = 2, REFUSED = 3 };
 
@@ -40,30 +40,34 @@ static int mismatch(const char *what)
     return TROUBLE;
 }
 
+static void say(BnvShow s)
+{
+    char said[BNV_TEXT_BYTES];
+    bnv_say_show(said, sizeof said, s);
+    printf("%s\n", said);
+}
+
 /* Fills `way` with the actions from node 0 to a node, the last one first, by the ORIGIN words: how many, or -1 if there is no way. */
 static int find_way(uint32_t node, size_t actions)
 {
     int count = 0;
     while (node != 0) {
-        size_t place = node * (BNV_HEADER_WORDS + actions) + 1;
+        size_t place = BNV_RECORD(actions, node) + 1;
         if (count == BNV_MOST_NODES || place + 1 >= BNV_GRAPH_WORDS || BNV_KIND(graph[place]) != BNV_ORIGIN
             || BNV_KIND(graph[place + 1]) != BNV_DISTANCE)
             return -1;
-        way[count++] = graph[place] & 15u;
-        node = graph[place] >> 4 & 511u;
+        way[count++] = BNV_ORIGIN_ACTION(graph[place]);
+        node = BNV_ORIGIN_PARENT(graph[place]);
     }
     return count;
 }
 
 static void print_finding(uint32_t finding, size_t actions)
 {
-    uint32_t node = BNV_FINDING_NODE(finding), place = BNV_FINDING_PLACE(finding);
-    if (BNV_FINDING_RUN_OFF(finding))
-        printf("action %u may take variable %u %s at node %u; actions:", BNV_FINDING_ACTION(finding), place,
-               BNV_FINDING_HIGH(finding) ? "above its high end" : "below its low end", node);
-    else
-        printf("may meet forbidden combination %u at node %u; actions:", place, node);
-    int count = find_way(node, actions);
+    char said[BNV_TEXT_BYTES];
+    bnv_say_finding(said, sizeof said, finding);
+    printf("%s; actions:", said);
+    int count = find_way(BNV_FINDING_NODE(finding), actions);
     if (count == 0)
         printf(" none");
     while (count > 0)
@@ -86,7 +90,7 @@ static int print_findings(BnvShow s)
         print_finding(list[i], actions);
     if (f.count > 0)
         return FINDINGS;
-    printf("safe: nodes %zu, edges %zu\n", s.judged.nodes, s.judged.edges);
+    say(s);
     return SAFE;
 }
 
@@ -98,7 +102,7 @@ static int print_verdict(BnvShow s)
     case BNV_MAY_RUN_OFF:
         return print_findings(s);
     case BNV_JUDGE_REFUSED:
-        if (s.judged.refusal < BNV_REFUSED_SHORT || s.judged.refusal > BNV_REFUSED_FINDINGS)
+        if (!bnv_refusal_text(s.judged.refusal))
             return mismatch("no such refusal");
         printf("refused %u AT %zu\n", s.judged.refusal, s.judged.value);
         return REFUSED;
@@ -111,10 +115,8 @@ static int print(BnvShow s)
 {
     switch (s.answer) {
     case BNV_TOO_LONG:
-        printf("too long: more than 65,536 bytes\n");
-        return REFUSED;
     case BNV_ODD_BYTES:
-        printf("odd bytes: the file was cut\n");
+        say(s);
         return REFUSED;
     case BNV_JUDGED:
         return print_verdict(s);

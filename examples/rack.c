@@ -12,7 +12,7 @@
 #include <stdlib.h>
 #include <string.h>
 
-#include "bulanevior.h"
+#include "bulanevior_text.h"
 
 enum { SAME = 0, DIFFER = 1, TROUBLE = 2, REFUSED = 3, MOST = 1000 };
 
@@ -29,8 +29,9 @@ static int trouble(const char *what)
 
 static int mismatch(uint32_t number)
 {
-    fprintf(stderr, "the library is of another version: %u is no answer of this one\n", number);
-    return TROUBLE;
+    char said[BNV_TEXT_BYTES];
+    bnv_say_mismatch(said, sizeof said, number);
+    return trouble(said);
 }
 
 static int refused(uint32_t number, size_t value)
@@ -42,12 +43,10 @@ static int refused(uint32_t number, size_t value)
 /* Whether a show is safe, or why there is nothing to press. */
 static int print_show(BnvShow s)
 {
-    if (s.answer == BNV_TOO_LONG) {
-        printf("too long: more than 65,536 bytes\n");
-        return REFUSED;
-    }
-    if (s.answer == BNV_ODD_BYTES) {
-        printf("odd bytes: the file was cut\n");
+    if (s.answer == BNV_TOO_LONG || s.answer == BNV_ODD_BYTES) {
+        char said[BNV_TEXT_BYTES];
+        bnv_say_show(said, sizeof said, s);
+        printf("%s\n", said);
         return REFUSED;
     }
     if (s.answer != BNV_JUDGED)
@@ -105,13 +104,9 @@ static int numbers(char **texts, long low, long high, long *out)
 /* What a step answers, and the state behind it. */
 static void print(const char *who, BnvStep s, const int32_t *state, size_t n)
 {
-    printf("%s ", who);
-    if (s.answer == BNV_MOVED)
-        printf("moves,");
-    else if (s.answer == BNV_RUNS_OFF)
-        printf("runs off at variable %zu,", s.variable);
-    else
-        printf("is not enabled (guard row %u lacks %lld),", s.row, -(long long)s.row_value);
+    char said[BNV_TEXT_BYTES];
+    bnv_say_step(said, sizeof said, s);
+    printf("%s %s,", who, said);
     for (size_t v = 0; v < n; v++)
         printf(" %d", (int)state[v]);
 }

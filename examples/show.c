@@ -6,7 +6,7 @@
  */
 #include <stdio.h>
 
-#include "bulanevior.h"
+#include "bulanevior_text.h"
 
 enum { SAFE = 0, FINDING = 1, TROUBLE = 2, REFUSED = 3 };
 
@@ -31,107 +31,37 @@ static long load(const char *name)
     return failed ? -1 : (long)size;
 }
 
-/* A number that is no answer: the library is of another version than the header. */
-static int mismatch(uint32_t number)
+/* The exit status that an answer stands for. */
+static int status_of(BnvShow s)
 {
-    fprintf(stderr, "the library is of another version: %u is no answer of this one\n", number);
-    return TROUBLE;
-}
-
-/* A refusal in a sentence for the operator, with number and value behind it. */
-static int print_refusal(uint32_t number, size_t value)
-{
-    if (number < BNV_REFUSED_SHORT || number > BNV_REFUSED_FINDINGS)
-        return mismatch(number);
-    printf("refused: ");
-    switch (number) {
-    case BNV_REFUSED_SHORT:
-        printf("a lent list is too short, a fault of the caller");
-        break;
-    case BNV_REFUSED_WORD:
-        printf("word %zu is missing, of the wrong kind, after the end, or has a stray bit", value);
-        break;
-    case BNV_REFUSED_LIMIT:
-        printf("word %zu is one too many of its kind, or counts too many", value);
-        break;
-    case BNV_REFUSED_VALUE:
-        printf("word %zu has a number that is not allowed", value);
-        break;
-    case BNV_REFUSED_LEMMA:
-        printf("word %zu of the lemmas is missing or against the rules", value);
-        break;
-    case BNV_REFUSED_LEMMAS:
-        printf("word %zu of the lemmas begins one more than 512 lemmas", value);
-        break;
-    case BNV_REFUSED_NODES:
-        printf("the picture of this show needs more than 512 nodes");
-        break;
-    case BNV_REFUSED_ABSENT:
-        printf("there is no action, lemma or node %zu", value);
-        break;
-    case BNV_REFUSED_LENGTH:
-        printf("the state has %zu values, not one for each variable", value);
-        break;
-    case BNV_REFUSED_STATE:
-        printf("the value of variable %zu is off its range", value);
-        break;
-    case BNV_REFUSED_SUM:
-        printf("the sum of lemma %zu does not fit 64 bits", value);
-        break;
-    case BNV_REFUSED_FINDINGS:
-        printf("the findings list is too short, %zu words are needed", value);
-        break;
-    }
-    printf(" (%u AT %zu)\n", number, value);
-    return REFUSED;
-}
-
-/* The actions that lead to a finding: in the graph no list of fewer leads to any. */
-static int print_path(void)
-{
-    printf("actions:");
-    if (BNV_KIND(path[0]) != BNV_STEP)
-        printf(" none");
-    for (size_t i = 0; i < BNV_PATH_WORDS && BNV_KIND(path[i]) == BNV_STEP; i++)
-        printf(" %u", BNV_PAYLOAD(path[i]));
-    printf("\n");
-    return FINDING;
-}
-
-static int print_verdict(BnvJudge j)
-{
-    switch (j.verdict) {
+    if (s.answer == BNV_TOO_LONG || s.answer == BNV_ODD_BYTES)
+        return REFUSED;
+    if (s.answer != BNV_JUDGED)
+        return TROUBLE; /* BNV_WORDS_SHORT cannot be: the list is long enough */
+    switch (s.judged.verdict) {
     case BNV_SAFE:
-        printf("safe: nodes %zu, edges %zu\n", j.nodes, j.edges);
         return SAFE;
     case BNV_MAY_FORBID:
-        printf("may meet forbidden combination %zu at node %zu\n", j.place, j.node);
-        return print_path();
     case BNV_MAY_RUN_OFF:
-        printf("action %zu may take variable %zu %s at node %zu\n", j.place, j.variable,
-               j.high ? "above its high end" : "below its low end", j.node);
-        return print_path();
+        return FINDING;
     case BNV_JUDGE_REFUSED:
-        return print_refusal(j.refusal, j.value);
+        return bnv_refusal_text(s.judged.refusal) ? REFUSED : TROUBLE;
     default:
-        return mismatch(j.verdict);
+        return TROUBLE;
     }
 }
 
+/* What is said of a show; after a finding also the actions that lead there: in the graph no list of fewer leads to any. */
 static int print(BnvShow s)
 {
-    switch (s.answer) {
-    case BNV_TOO_LONG:
-        printf("too long: more than 65,536 bytes\n");
-        return REFUSED;
-    case BNV_ODD_BYTES:
-        printf("odd bytes: the file was cut\n");
-        return REFUSED;
-    case BNV_JUDGED:
-        return print_verdict(s.judged);
-    default:
-        return mismatch(s.answer); /* BNV_WORDS_SHORT cannot be: the list is long enough */
-    }
+    char said[BNV_TEXT_BYTES], actions[BNV_TEXT_PATH_BYTES];
+    int status = status_of(s);
+    bnv_say_show(said, sizeof said, s);
+    bnv_say_path(actions, sizeof actions, path, BNV_PATH_WORDS);
+    fprintf(status == TROUBLE ? stderr : stdout, "%s\n", said);
+    if (status == FINDING)
+        printf("%s\n", actions);
+    return status;
 }
 
 int main(int argc, char **argv)

@@ -5,7 +5,9 @@
  * The calls read such a list, step its actions, weigh lemmas about it, and judge whether any list of actions can bring the show
  * into a forbidden state or run a variable off its range. A desk that has the bytes of a show file calls bnv_show and needs no other.
  *
- * Link target/staticlib/libexports.a, which `rt staticlib exports` writes, on x86-64 Linux. It needs memcpy and memset and nothing else.
+ * Link libbulanevior.a, which `./install` puts in place, or target/staticlib/libexports.a, which `rt staticlib exports` writes: they are the
+ * same, for x86-64 Linux. It needs memcpy and memset and nothing else. docs/EMBEDDING.md has the lines; bulanevior_text.h has sentences for
+ * every answer.
  *
  * What the caller owes, at every call:
  *  - A list is a pointer and a length: two arguments. The length counts elements. A list of length zero is empty whatever its
@@ -29,8 +31,8 @@
  *
  * No answer is 0, in `answer` or in `verdict`: a record of zeros permits nothing. Begin with `BnvJudge j = {0};`, so that one which no
  * call has filled is such a record. Ask for the answer that permits (`== BNV_SAFE`), never for the absence of another; a number that
- * is named nowhere below permits nothing either. It means that this header and the library are of different versions: CHANGELOG.md
- * says which numbers moved.
+ * is named nowhere below permits nothing either. It means that this header and the library are of different versions: bnv_version() tells,
+ * and CHANGELOG.md says which numbers moved.
  */
 #ifndef BULANEVIOR_H
 #define BULANEVIOR_H
@@ -45,12 +47,22 @@ static_assert(sizeof(size_t) == 8, "64-bit numbers only");
 _Static_assert(sizeof(size_t) == 8, "64-bit numbers only");
 #endif
 
-#define BNV_VERSION "0.7.1"
+/*
+ * ---- Version: of this header, as text and as a number, major times 1,000,000, minor times 1,000, and patch; and the library's number.
+ *
+ * bnv_version() == BNV_VERSION_NUMBER: header and library belong together. A library before 0.8.0 does not link with a caller of it.
+ */
+
+#define BNV_VERSION "0.8.0"
+#define BNV_VERSION_NUMBER 8000u
+
+uint32_t bnv_version(void);
 
 /* ---- Words: the kind in bits 31 to 28, the payload in bits 27 to 0. */
 
 #define BNV_KIND(word) ((uint32_t)(word) >> 28)
 #define BNV_PAYLOAD(word) ((uint32_t)(word) & 0x0FFFFFFFu)
+#define BNV_WORD(kind, payload) ((uint32_t)(kind) << 28 | BNV_PAYLOAD(payload))
 
 #define BNV_DISTANCE 0u /* a node's distance from node 0: the fewest actions that lead to it; zeroed words have this kind too */
 #define BNV_VAR 1u    /* a variable's range */
@@ -69,6 +81,23 @@ _Static_assert(sizeof(size_t) == 8, "64-bit numbers only");
 #define BNV_FINDING 14u /* a finding */
 #define BNV_END 15u   /* the end of the logic */
 
+/* ---- Limits of a logic and its lemmas. A range's ends, a row's constant and a coefficient, which is never 0, are signed. */
+
+#define BNV_MOST_VARIABLES 8u
+#define BNV_MOST_START_ROWS 8u
+#define BNV_MOST_PREDICATES 14u
+#define BNV_MOST_GUARD_ROWS 8u
+#define BNV_MOST_ASSIGNMENTS 8u
+#define BNV_MOST_FORBIDDEN 8u
+#define BNV_MOST_LEMMAS 512u
+#define BNV_MOST_MULTIPLIER 65535u
+#define BNV_LOWEST (-8192)
+#define BNV_HIGHEST 8191
+#define BNV_LEAST_CONSTANT (-1000000)
+#define BNV_MOST_CONSTANT 1000000
+#define BNV_LEAST_COEFFICIENT (-1000)
+#define BNV_MOST_COEFFICIENT 1000
+
 /* ---- A graph: the most nodes and actions, and how many words of a node's record, SETS, ORIGIN and DISTANCE, come before its EDGE words. */
 
 #define BNV_MOST_NODES 512u
@@ -79,6 +108,63 @@ _Static_assert(sizeof(size_t) == 8, "64-bit numbers only");
 
 #define BNV_GRAPH_WORDS (BNV_MOST_NODES * (BNV_HEADER_WORDS + BNV_MOST_ACTIONS)) /* 9,728 */
 #define BNV_PATH_WORDS 512u
+
+/* ---- A lemma: the source that is the start and no action, and the goals. */
+
+#define BNV_START 255u
+#define BNV_GOAL_NEVER 0u /* the source cannot happen */
+#define BNV_GOAL_HOLDS 1u /* the predicate holds afterwards */
+#define BNV_GOAL_FAILS 2u /* the predicate fails afterwards */
+#define BNV_GOAL_LOW 3u   /* the variable is not below its low end afterwards */
+#define BNV_GOAL_HIGH 4u  /* the variable is not above its high end afterwards */
+
+/*
+ * ---- Words made. What does not fit its field is cut to it, without a word: keep to the limits above, and have the list checked.
+ *
+ * In a SETS word predicate p is bit p of `hold` or of `fail`.
+ */
+
+#define BNV_MAKE_VAR(low, high) BNV_WORD(BNV_VAR, ((uint32_t)(low) & 16383u) << 14 | ((uint32_t)(high) & 16383u))
+#define BNV_MAKE_ROW(constant) BNV_WORD(BNV_ROW, constant)
+#define BNV_MAKE_TERM(variable, coefficient) BNV_WORD(BNV_TERM, ((uint32_t)(variable) & 15u) << 24 | ((uint32_t)(coefficient) & 65535u))
+#define BNV_MAKE_INIT(rows) BNV_WORD(BNV_INIT, rows)
+#define BNV_MAKE_PRED(predicates) BNV_WORD(BNV_PRED, predicates)
+#define BNV_MAKE_ACTION(guard_rows, assignments) BNV_WORD(BNV_ACTION, ((uint32_t)(guard_rows) & 15u) << 4 | ((uint32_t)(assignments) & 15u))
+#define BNV_MAKE_SET(variable) BNV_WORD(BNV_SET, variable)
+#define BNV_MAKE_SETS(hold, fail) BNV_WORD(BNV_SETS, ((uint32_t)(fail) & 16383u) << 14 | ((uint32_t)(hold) & 16383u))
+#define BNV_MAKE_LEMMA(source, goal, index) \
+    BNV_WORD(BNV_LEMMA, ((uint32_t)(source) & 255u) << 20 | ((uint32_t)(goal) & 15u) << 16 | ((uint32_t)(index) & 255u))
+#define BNV_MAKE_MULT(multiplier) BNV_WORD(BNV_MULT, multiplier)
+#define BNV_MAKE_END() BNV_WORD(BNV_END, 0)
+
+/*
+ * ---- Words taken apart. A word of one field has it in BNV_PAYLOAD: INIT and PRED how many follow, SET the variable, MULT the multiplier,
+ * DISTANCE the distance, EDGE the successor, STEP the action.
+ */
+
+#define BNV_VAR_LOW(word) ((int32_t)(((uint32_t)(word) >> 14 & 16383u) ^ 8192u) - 8192)
+#define BNV_VAR_HIGH(word) ((int32_t)(((uint32_t)(word) & 16383u) ^ 8192u) - 8192)
+#define BNV_ROW_CONSTANT(word) ((int32_t)(BNV_PAYLOAD(word) ^ 134217728u) - 134217728)
+#define BNV_TERM_VARIABLE(word) ((uint32_t)(word) >> 24 & 15u)
+#define BNV_TERM_COEFFICIENT(word) ((int32_t)(((uint32_t)(word) & 65535u) ^ 32768u) - 32768)
+#define BNV_ACTION_GUARD_ROWS(word) ((uint32_t)(word) >> 4 & 15u)
+#define BNV_ACTION_ASSIGNMENTS(word) ((uint32_t)(word) & 15u)
+#define BNV_SETS_HOLD(word) ((uint32_t)(word) & 16383u)
+#define BNV_SETS_FAIL(word) ((uint32_t)(word) >> 14 & 16383u)
+#define BNV_LEMMA_SOURCE(word) ((uint32_t)(word) >> 20 & 255u)
+#define BNV_LEMMA_GOAL(word) ((uint32_t)(word) >> 16 & 15u)
+#define BNV_LEMMA_INDEX(word) ((uint32_t)(word) & 255u)
+
+/*
+ * ---- A node's record in a graph list: the index of its first word, for a program of so many actions. Its ORIGIN word names the parent and
+ * the action, or none, as that of node 0; an EDGE word a successor, or none.
+ */
+
+#define BNV_RECORD(actions, node) ((size_t)(node) * (BNV_HEADER_WORDS + (size_t)(actions)))
+#define BNV_ORIGIN_NONE(word) (BNV_PAYLOAD(word) == 8191u)
+#define BNV_ORIGIN_PARENT(word) ((uint32_t)(word) >> 4 & 511u)
+#define BNV_ORIGIN_ACTION(word) ((uint32_t)(word) & 15u)
+#define BNV_EDGE_NONE(word) (BNV_PAYLOAD(word) == 268435455u)
 
 /*
  * ---- A finding, a word of kind BNV_FINDING in the list of bnv_findings: its node, whether it is a run-off, the action that may run

@@ -125,6 +125,11 @@ static void finding_fields(void)
     CHECK(2 * BNV_FINDING_NODE(0xE0080000u | 0x00100000u) == 6 && 2 * BNV_FINDING_HIGH(1) == 2 && BNV_FINDING_ACTION(-1) == 15);
 }
 
+static void version(void)
+{
+    CHECK(bnv_version() == 8000 && bnv_version() == BNV_VERSION_NUMBER);
+}
+
 static void check(void)
 {
     BnvCheck c = bnv_check(fade, LOGIC);
@@ -408,7 +413,7 @@ static size_t taken(void (*part)(void))
 
 int main(void)
 {
-    void (*parts[])(void) = {kinds, finding_fields, check, action_part, step, near, rack_step, ask, judge, judge_refused, findings_refused, findings, show_refused, show};
+    void (*parts[])(void) = {kinds, finding_fields, version, check, action_part, step, near, rack_step, ask, judge, judge_refused, findings_refused, findings, show_refused, show};
     size_t most = 0, last = 0;
     for (size_t i = 0; i < sizeof parts / sizeof *parts; i++) {
         last = taken(parts[i]);

@@ -1,8 +1,8 @@
 #!/bin/bash
 # The companion (companion/) and the example of the call Findings in C (examples/findings.c). Of each show, and of cut and damaged files, both print the
 # lines of BIN, an independent program that reads a show on standard input, and end with the status that the lines stand for. What the companion draws of
-# them, and of shows by tests/graphs.py, is held to the lines of FACTS, an independent program too (tests/drawing.py). Then trouble, arguments, and ./bulanevior, with stand-ins for what
-# builds. `tests/companion.sh BIN FACTS` prints `ok` at the end, or what differs.
+# them, and of shows by tests/graphs.py, is held to the lines of FACTS, an independent program too (tests/drawing.py). Then shows as text and back, trouble, arguments, and ./bulanevior,
+# with stand-ins for what builds. `tests/companion.sh BIN FACTS` prints `ok` at the end, or what differs.
 set -eu
 [ $# -eq 2 ] || { echo "usage: tests/companion.sh BIN FACTS"; exit 2; }
 bin=$(readlink -f "$1") facts=$(readlink -f "$2")
@@ -122,6 +122,30 @@ done
 python3 -B tests/graphs.py "$room" 100
 python3 -B tests/drawing.py "$companion" "$facts" "${compared[@]}" "$room"/made-* || fail "not drawn as $facts says"
 
+# ---- texts: what is written compiles to the same words, and a text is judged as its words are
+
+for show in shows/[!ce]*.words shows/c[!u]*.words "$room"/made-*; do
+    "$companion" text "$show" >"$room/text" && "$companion" words "$room/text" | cmp - "$show" || fail "$show: not the same by way of text"
+    "$companion" text <"$room/text" | diff "$room/text" - || fail "$show: its text is not the text of its text"
+done
+for text in shows/*.text; do
+    status=0
+    "$companion" findings "${text%.text}.words" >"$room/expected" || status=$?
+    prints "$companion" findings "$text"
+    "$companion" words <"$text" | cmp - "${text%.text}.words" || fail "$text: other words"
+done
+sed -n '/^```text$/,/^```$/{//!p}' docs/TEXT.md >"$room/documented"
+echo 'safe: nodes 3, edges 10' >"$room/expected"
+prints "$companion" findings "$room/documented"
+"$companion" draw shows/house.text | cmp - docs/house.svg || fail "draw shows/house.text: another picture than of its words"
+# A fault is said by line and column: where findings are asked for on standard output, else on standard error.
+sed 's/^    house := 1$/    hose := 1/' shows/house.text >"$room/faulty"
+at=$(grep -n hose "$room/faulty") why="column 5: \`hose\` is no variable; expected one of level, house"
+echo "refused: line ${at%%:*}, $why" >"$room/said"
+status=0
+"$companion" findings "$room/faulty" >"$room/out" 2>"$room/err" || status=$?
+[ "$status" -eq 3 ] && diff "$room/said" "$room/out" && [ ! -s "$room/err" ] || fail "findings of a faulty text: status $status"
+
 # ---- trouble: status 2, a message on standard error, and nothing on standard output, where there is one
 
 troubled() { # COMMAND LINE
@@ -134,13 +158,13 @@ complains() { # BEGINNING COMMAND LINE
     troubled "$2"
     [ "$(wc -l <"$room/err")" -eq 1 ] && [[ $(<"$room/err") == "bulanevior: $1"* ]] || fail "$2: $(<"$room/err")"
 }
-for run in '$example' '$companion findings' '$companion findings --' '$companion draw' '$companion draw --'; do
+for run in '$example' '$companion findings' '$companion findings --' '$companion draw' '$companion draw --' '$companion text' '$companion words --'; do
     for file in '$room/missing' '$room' /proc/self/mem; do
         troubled "$run $file"
     done
-    # What is no show goes to standard error, if it is to be drawn, and harms no output.
+    # What is no show goes to standard error, if a file is to be made of it, and harms no output.
     refused='shows/cut_logic.words shows/cut_byte.words'
-    case $run in *draw*) refused= ;; esac
+    case $run in *draw* | *text* | *words*) refused= ;; esac
     for show in shows/fade.words '$room/bare' $refused; do
         for output in '>/dev/full' '>&-' '1</dev/null' '<&- >&-'; do
             troubled "$run $show $output"
@@ -151,7 +175,7 @@ for run in '$example' '$companion findings' '$companion findings --' '$companion
     done
 done
 for input in '' - -- '-- -'; do
-    for command in findings draw; do
+    for command in findings draw text words; do
         complains 'cannot read standard input: ' "\$companion $command $input <&-"
         complains 'cannot read standard input: ' "\$companion $command $input </"
     done
@@ -159,12 +183,12 @@ done
 complains 'cannot read standard input: ' 'python3 -B tests/feed.py reset shows/fade.words -- $companion findings'
 complains 'cannot read "a\nb": ' '$companion findings "$(printf "a\nb")"'
 for output in '>/dev/full' '>&-' '1</dev/null'; do
-    for line in 'findings shows/fade.words' 'draw shows/fade.words' 'draw shows/rig8.words' --help --version; do
+    for line in 'findings shows/fade.words' 'draw shows/fade.words' 'draw shows/rig8.words' 'text shows/fade.words' 'words shows/fade.text' --help --version; do
         complains 'cannot write to standard output: ' "\$companion $line $output"
     done
 done
 for mode in gone ignored full; do
-    for line in 'findings shows/fade.words' 'draw shows/rig8.words'; do
+    for line in 'findings shows/fade.words' 'draw shows/rig8.words' 'text shows/rig8.words' 'words shows/rig8.text'; do
         complains 'cannot write to standard output: ' "python3 -B tests/feed.py $mode -- \$companion $line"
     done
 done
@@ -174,7 +198,7 @@ prints "$companion" findings shows/fade.words <&-
 prints bash -c '$companion findings shows/fade.words 2>&-'
 prints bash -c 'cat shows/fade.words | $companion findings -'
 
-# ---- drawings: the same from a file and from standard input; of what is no show the sentence of findings, on standard error
+# ---- drawings: the same from a file and from standard input; of what is no show the sentence of findings, on standard error, as of text and words
 
 draws() { # STATUS COMMAND LINE
     local status=0
@@ -190,12 +214,14 @@ draws 0 '$companion draw shows/fade.words 2>&-'
 "$companion" draw "$room/bare" >"$room/svg" && fail "draw: bare is safe"
 draws 1 '$companion draw "$room/bare"'
 : >"$room/empty"
-for show in shows/cut_logic.words shows/cut_byte.words shows/cut_lemma.words shows/empty.words "$room/empty" "$room/zeros-65540"; do
+for show in shows/cut_logic.words shows/cut_byte.words shows/cut_lemma.words shows/empty.words "$room/empty" "$room/zeros-65540" "$room/faulty"; do
     "$companion" findings "$show" >"$room/said" && fail "$show is safe"
-    for output in '' '>/dev/full' '>&-'; do
-        status=0
-        bash -c "\$companion draw '$show' $output" >"$room/out" 2>"$room/err" || status=$?
-        [ "$status" -eq 3 ] && [ ! -s "$room/out" ] && diff "$room/said" "$room/err" || fail "draw $show $output: status $status"
+    for command in draw text words; do
+        for output in '' '>/dev/full' '>&-'; do
+            status=0
+            bash -c "\$companion $command '$show' $output" >"$room/out" 2>"$room/err" || status=$?
+            [ "$status" -eq 3 ] && [ ! -s "$room/out" ] && diff "$room/said" "$room/err" || fail "$command $show $output: status $status"
+        done
     done
 done
 for name in house bakery; do
@@ -208,7 +234,7 @@ cp shows/fade.words "$room/--help"
 prints bash -c 'cd "$room" && $companion findings -- --help'
 for line in '' - -- finding --findings --verbose shows/fade.words 'findings --help' 'findings -x' 'findings ""' 'findings shows/fade.words shows/fade.words' \
     'findings shows/fade.words --' 'help findings' '--help findings' '--version findings' "\$'find\\xffings'" drawing --draw 'draw --help' 'draw -x' 'draw ""' \
-    'draw shows/fade.words shows/fade.words' 'draw shows/fade.words --' 'draw findings shows/fade.words' 'help draw'; do
+    'draw shows/fade.words shows/fade.words' 'draw shows/fade.words --' 'draw findings shows/fade.words' 'help draw' texts --words 'text --help' 'words -x' 'text ""' 'words shows/fade.text shows/fade.text' 'text words shows/fade.text'; do
     troubled "\$companion $line"
     [[ $(<"$room/err") == "Usage: bulanevior COMMAND [--] [FILE]"* ]] || fail "bulanevior $line: not the usage"
 done

@@ -16,7 +16,11 @@ compile() { # SOURCE PROGRAM
 }
 cc -std=c11 $strict -fsyntax-only -x c tests/header.c
 c++ -std=c++17 $strict -fsyntax-only -x c++ tests/header.c
+printf '%s\n' '#include "bulanevior_text.h"' 'int main() { char said[BNV_TEXT_BYTES]; return bnv_say_ask(said, sizeof said, BnvAsk{}) == 0; }' >"$room/text.cc"
+c++ -std=c++17 $strict "$room/text.cc" -o "$room/text"
+"$room/text"
 compile tests/calls.c "$room/calls"
+compile tests/texts.c "$room/texts"
 compile examples/show.c "$room/show"
 compile examples/rack.c "$room/rack"
 (cd wrapper && cargo build --release --offline --quiet --example show --example rack)
@@ -92,11 +96,8 @@ head -c 65537 /dev/zero >"$room/long"
 says "$room/long" 3 'too long: more than 65,536 bytes'
 says /dev/zero 3 'too long: more than 65,536 bytes'
 
-# Every refusal's sentence, also of those that no show gets; the wrapper's test has the same file.
-printf '%s\n' '#define main shown' '#include "show.c"' '#undef main' \
-    'int main(void) { for (uint32_t n = 1; n < 13; n++) if (print_refusal(n, 512) != REFUSED) return 1; return 0; }' >"$room/refusals.c"
-cc -std=c11 $strict -I"$PWD/include" -I"$PWD/examples" "$room/refusals.c" "$library" -o "$room/refusals"
-"$room/refusals" | diff tests/refusals.txt -
+# Every sentence of the text header, also those that no show gets; the wrapper's test has the same file.
+"$room/texts" | diff tests/sentences.txt -
 
 # A library older than guard rows in the record: "not enabled" with what stood in the padding is trouble, of either step, and no comparison.
 printf '%s\n' '#include "bulanevior.h"' 'static BnvStep exact_said, rack_said;' \

@@ -70,3 +70,76 @@ pub fn words(input: &Input) -> Result<Said, String> {
         Err(why) => Said::aside(why, Status::Refused),
     })
 }
+
+#[cfg(test)]
+mod tests {
+    use super::*;
+    use crate::input;
+
+    fn of(bytes: &[u8]) -> Input {
+        input::of(bytes.to_vec()).unwrap()
+    }
+
+    #[test]
+    fn there_and_back() {
+        let fade = include_bytes!("../../shows/fade.words");
+        let written = text(&of(fade)).unwrap();
+        assert_eq!(written.status, Status::Good);
+        assert!(written
+            .bytes
+            .starts_with(b"variable v0 0 to 1000\n\naction a0\n"));
+        let back = words(&of(&written.bytes)).unwrap();
+        assert_eq!(
+            (back.bytes.as_slice(), back.status),
+            (&fade[..], Status::Good)
+        );
+        assert_eq!(words(&of(fade)).unwrap().bytes, fade);
+        // A text keeps its names.
+        let named = text(&of(include_bytes!("../../shows/fade.text"))).unwrap();
+        assert!(named
+            .bytes
+            .starts_with(b"variable level 0 to 1000\n\naction down\n"));
+    }
+
+    #[test]
+    fn what_is_no_show() {
+        let fade = include_bytes!("../../shows/fade.words");
+        let word = "refused: word 15 is missing, of the wrong kind, after the end, or has a stray bit (2 AT 15)";
+        for (bytes, why) in [
+            (&fade[..63], "odd bytes: the file was cut"),
+            (&fade[..60], word),
+        ] {
+            for command in [text, words] {
+                let said = command(&of(bytes)).unwrap();
+                assert!(said.aside && said.bytes.is_empty() && said.status == Status::Refused);
+                assert!(said.lines.eq([why.to_string()]));
+            }
+        }
+    }
+
+    /// 513 nodes are too many to judge, and no fault of a word.
+    #[test]
+    fn a_graph_that_is_too_large() {
+        let rig8 = include_bytes!("../../shows/rig8_kept.words");
+        let cut = &rig8[..4 * 693];
+        assert!(matches!(
+            crate::verdict::judge(cut),
+            Ok(crate::verdict::Answer::Refused(_))
+        ));
+        assert_eq!(words(&of(cut)).unwrap().bytes, cut);
+        assert_eq!(text(&of(cut)).unwrap().status, Status::Good);
+    }
+
+    /// Words that the proved calls refuse do not come from a text.
+    #[test]
+    fn a_text_that_is_refused_is_trouble() {
+        let fade = include_bytes!("../../shows/fade.words");
+        let mut input = of(include_bytes!("../../shows/fade.text"));
+        input.bytes = fade[..60].to_vec();
+        let begins = "the library and the wrapper do not match: refused: word 15 ";
+        for command in [text, words] {
+            let trouble = command(&input).err().unwrap();
+            assert!(trouble.starts_with(begins), "{trouble}");
+        }
+    }
+}

@@ -9,13 +9,13 @@ use std::collections::{BTreeMap, BTreeSet};
 pub fn run(input: &Input) -> Result<Said, String> {
     match verdict::judge(&input.bytes)? {
         Answer::Judged(show) => told(show),
-        Answer::Refused(why) => Ok(Said::line(why, Status::Refused)),
+        Answer::Refused(why) => Ok(Said::line(why.sentence, Status::Refused)),
     }
 }
 
 /// What is said of a show that was judged.
-fn told(mut show: Judged) -> Result<Said, String> {
-    let found = all(&mut show)?;
+fn told(show: Judged) -> Result<Said, String> {
+    let found = all(&show)?;
     if found.is_empty() {
         return Ok(Said::line(safe(show.judgement), Status::Good));
     }
@@ -27,12 +27,12 @@ fn told(mut show: Judged) -> Result<Said, String> {
 }
 
 /// All findings, of which the first is Judge's; none where Judge says safe.
-fn all(show: &mut Judged) -> Result<Vec<Finding>, String> {
-    let mut list = vec![0; MOST_FINDINGS];
-    let count =
-        findings(&show.logic, &show.lemmas, &mut show.graph, &mut list).map_err(mismatch)?;
+pub fn all(show: &Judged) -> Result<Vec<Finding>, String> {
+    let (mut graph, mut list) = (vec![0; GRAPH_WORDS], vec![0; MOST_FINDINGS]);
+    let count = findings(&show.logic, &show.lemmas, &mut graph, &mut list).map_err(mismatch)?;
     let found: Vec<Finding> = listed(&list).collect();
-    if found.len() != count || found.first().copied() != show.judgement.verdict.finding() {
+    let first = found.first().copied();
+    if found.len() != count || first != show.judgement.verdict.finding() || graph != show.graph {
         return Err(mismatch("the findings are not those of Judge"));
     }
     Ok(found)

@@ -13,12 +13,13 @@ pub struct Input {
     pub names: Option<Names>,
 }
 
-/// Is a file a text? Words that are a show are none: the fourth byte of a VAR word is 16 to 31.
+/// Is a file a text? Words that are a show are none: the fourth byte of a VAR word is 16 to 31. What begins as a text and is no UTF-8
+/// further on is one too, so that its fault can be named.
 fn is_text(bytes: &[u8]) -> bool {
     let control = |byte: &u8| *byte < b' ' && !b"\t\n\r".contains(byte);
-    let starts =
-        bytes.first().is_some_and(u8::is_ascii) || bytes.starts_with("\u{FEFF}".as_bytes());
-    starts && !bytes.iter().any(control)
+    let begins = bytes.first().is_some_and(u8::is_ascii);
+    let whole = !bytes.is_empty() && std::str::from_utf8(bytes).is_ok();
+    (begins || whole) && !bytes.iter().any(control)
 }
 
 /// What is in a file, or the first place at which its text is at fault.
@@ -47,5 +48,49 @@ pub fn of(mut bytes: Vec<u8>) -> Result<Input, Fault> {
             let read = String::from_utf8_lossy(&bytes[..e.valid_up_to()]);
             Err(Fault::behind(&read, "a byte that is no UTF-8"))
         }
+    }
+}
+
+#[cfg(test)]
+mod tests {
+    use super::*;
+
+    fn refused(bytes: &[u8]) -> String {
+        match of(bytes.to_vec()) {
+            Ok(_) => panic!("no fault"),
+            Err(fault) => fault.to_string(),
+        }
+    }
+
+    #[test]
+    fn texts_and_words_are_told_apart() {
+        let named = |bytes: &[u8]| of(bytes.to_vec()).unwrap().names.is_some();
+        for text in ["variable x 0 to 1", "\u{FEFF}variable x 0 to 1\r\n\t#ü\n"] {
+            assert!(named(text.as_bytes()));
+        }
+        let fade = include_bytes!("../../shows/fade.words");
+        for words in [&fade[..], &fade[..1], &fade[..5], &[], &[0], &[b'#', 0x1F]] {
+            assert!(!named(words));
+            assert_eq!(of(words.to_vec()).unwrap().bytes, words);
+        }
+        assert_eq!(of(vec![0; BYTES]).unwrap().bytes.len(), SHOW_BYTES + 1);
+    }
+
+    #[test]
+    fn what_is_no_text() {
+        let none = "the text ends; expected a variable";
+        assert_eq!(refused(b"\n"), format!("line 2, column 1: {none}"));
+        assert!(refused("ü".as_bytes()).starts_with("line 1, column 1: `ü` has no meaning here"));
+        let latin = b"variable x 0 to 1\n# B\xFChne\n";
+        assert_eq!(refused(latin), "line 2, column 4: a byte that is no UTF-8");
+        let long = [b"variable x 0 to 1\n#", vec![b'x'; BYTES].as_slice()].concat();
+        assert!(of(long[..text::BYTES].to_vec()).is_ok());
+        // The second line begins behind 18 bytes.
+        let column = text::BYTES - 18 + 1;
+        let why = "the text goes on behind 1,048,576 bytes, which are allowed";
+        assert_eq!(
+            refused(&long[..BYTES]),
+            format!("line 2, column {column}: {why}")
+        );
     }
 }

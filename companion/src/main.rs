@@ -6,6 +6,7 @@
 
 mod convert;
 mod draw;
+mod explain;
 mod file;
 mod findings;
 mod input;
@@ -50,6 +51,12 @@ fn refused(fault: &text::Fault) -> String {
 }
 
 const COMMANDS: &[Command] = &[
+    Command {
+        name: "explain",
+        prints: "the verdict or refusal: the word at fault, or the presses to the first finding, replayed",
+        makes: false,
+        run: explain::run,
+    },
     Command {
         name: "findings",
         prints: "all findings, one line each, with the actions that lead there",

@@ -13,8 +13,14 @@ pub struct Judged {
 
 pub enum Answer {
     Judged(Judged),
-    /// In a sentence why the show is refused, cut or too long.
-    Refused(String),
+    Refused(Refused),
+}
+
+/// Why a show is refused, cut or too long.
+pub struct Refused {
+    pub sentence: String,
+    /// The refusal, with the words of logic and lemmas; None where there are no whole words, or too many.
+    pub refusal: Option<(Refusal, Vec<u32>, Vec<u32>)>,
 }
 
 /// What the proved calls answer for the bytes of a show file, or the trouble.
@@ -32,9 +38,15 @@ pub fn judge(bytes: &[u8]) -> Result<Answer, String> {
                 graph,
             })),
             Err(why @ Refusal::Mismatch(_)) => Err(why.to_string()),
-            Err(why) => Ok(Answer::Refused(format!("refused: {why}"))),
+            Err(why) => Ok(Answer::Refused(Refused {
+                sentence: format!("refused: {why}"),
+                refusal: Some((why, show.logic.to_vec(), show.lemmas.to_vec())),
+            })),
         },
-        Err(why @ (NoShow::TooLong | NoShow::OddBytes)) => Ok(Answer::Refused(why.to_string())),
+        Err(why @ (NoShow::TooLong | NoShow::OddBytes)) => Ok(Answer::Refused(Refused {
+            sentence: why.to_string(),
+            refusal: None,
+        })),
         Err(why) => Err(why.to_string()),
     }
 }
@@ -84,31 +96,12 @@ pub fn presses(path: &[Step]) -> String {
 }
 
 pub fn safe(judgement: Judgement) -> String {
-    let (nodes, edges) = (judgement.nodes, judgement.edges);
-    format!("safe: nodes {nodes}, edges {edges}")
+    judgement.to_string()
 }
 
 /// A finding in words, with the actions that lead to its node.
 pub fn sentence(finding: Finding, presses: &str) -> String {
-    match finding {
-        Finding::MayForbid { node, combination } => {
-            format!(
-                "may meet forbidden combination {combination} at node {node}; actions:{presses}"
-            )
-        }
-        Finding::MayRunOff {
-            node,
-            action,
-            variable,
-            end,
-        } => {
-            let way = match end {
-                End::Low => "below its low end",
-                End::High => "above its high end",
-            };
-            format!("action {action} may take variable {variable} {way} at node {node}; actions:{presses}")
-        }
-    }
+    format!("{finding}; actions:{presses}")
 }
 
 #[cfg(test)]

@@ -54,21 +54,6 @@ fn values_text(state: &[i32]) -> String {
     state.iter().map(|x| format!(" {x}")).collect()
 }
 
-fn exact_text(answer: Step) -> String {
-    match answer {
-        Step::Moved => "exact moves,".to_string(),
-        Step::NotEnabled(failing) => format!("exact is not enabled ({failing}),"),
-        Step::RunsOff(v) => format!("exact runs off at variable {v},"),
-    }
-}
-
-fn rack_text(answer: Rack) -> String {
-    match answer {
-        Rack::Moved => "rack moves,".to_string(),
-        Rack::NotEnabled(failing) => format!("rack is not enabled ({failing}),"),
-    }
-}
-
 /// One action, on both states: its line, and whether the two are the same.
 fn press(
     logic: &[u32],
@@ -84,11 +69,7 @@ fn press(
         _ => false,
     };
     let (exact_values, rack_values) = (values_text(exact), values_text(rack));
-    let said = format!(
-        "action {k}: {}{exact_values}; {}{rack_values}\n",
-        exact_text(e),
-        rack_text(r)
-    );
+    let said = format!("action {k}: exact {e},{exact_values}; rack {r},{rack_values}\n");
     Ok((said, same && exact == rack))
 }
 

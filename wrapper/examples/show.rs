@@ -53,51 +53,31 @@ fn load(name: &Path) -> std::io::Result<Vec<u8>> {
     Ok(bytes)
 }
 
-/// The actions that lead to a finding: in the graph no list of fewer leads to any.
-fn path_text(path: &[u32]) -> String {
-    if actions(path).next().is_none() {
-        return "actions: none\n".to_string();
-    }
-    let all: String = actions(path).map(|action| format!(" {action}")).collect();
-    format!("actions:{all}\n")
-}
-
-/// What is said of a judgement, and the exit status.
-fn verdict_text(j: Judgement, path: &[u32]) -> (String, u8) {
-    let said = match j.verdict {
-        Verdict::Safe => {
-            let (nodes, edges) = (j.nodes, j.edges);
-            return (format!("safe: nodes {nodes}, edges {edges}\n"), SAFE);
-        }
-        Verdict::MayForbid { node, combination } => {
-            format!("may meet forbidden combination {combination} at node {node}\n")
-        }
-        Verdict::MayRunOff {
-            node,
-            action,
-            variable,
-            end,
-        } => {
-            let way = match end {
-                End::Low => "below its low end",
-                End::High => "above its high end",
-            };
-            format!("action {action} may take variable {variable} {way} at node {node}\n")
-        }
-    };
-    (said + &path_text(path), FINDING)
-}
-
-/// What is said of a show, and the exit status; or the trouble.
-fn text(show: Result<Show, NoShow>, path: &[u32]) -> Result<(String, u8), String> {
-    match show {
+/// The exit status that an answer stands for; None where it is of another version.
+fn status(shown: &Result<Show, NoShow>) -> Option<u8> {
+    match shown {
         Ok(show) => match show.answer {
-            Ok(j) => Ok(verdict_text(j, path)),
-            Err(why @ Refusal::Mismatch(_)) => Err(why.to_string()),
-            Err(why) => Ok((format!("refused: {why}\n"), REFUSED)),
+            Ok(_) if show.is_safe() => Some(SAFE),
+            Ok(_) => Some(FINDING),
+            Err(Refusal::Mismatch(_)) => None,
+            Err(_) => Some(REFUSED),
         },
-        Err(why @ (NoShow::TooLong | NoShow::OddBytes)) => Ok((format!("{why}\n"), REFUSED)),
-        Err(why) => Err(why.to_string()),
+        Err(NoShow::TooLong | NoShow::OddBytes) => Some(REFUSED),
+        Err(_) => None,
+    }
+}
+
+/// What is said of a show, and the exit status; or the trouble. After a finding also the actions that lead there: in the graph no
+/// list of fewer leads to any.
+fn text(shown: Result<Show, NoShow>, path: &[u32]) -> Result<(String, u8), String> {
+    let said = match &shown {
+        Ok(show) => show.to_string(),
+        Err(why) => why.to_string(),
+    };
+    match status(&shown) {
+        Some(FINDING) => Ok((format!("{said}\n{}\n", Presses(path)), FINDING)),
+        Some(status) => Ok((format!("{said}\n"), status)),
+        None => Err(said),
     }
 }
 

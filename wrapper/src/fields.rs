@@ -1,6 +1,7 @@
 //! Each field of each record arrives in its own place: the records have another number in every field.
 use super::*;
 use raw::*;
+use std::{string::ToString, vec::Vec};
 
 /// The refusal of the records below, by number and value.
 const REFUSED: (u32, usize) = (BNV_REFUSED_ABSENT, 23);

@@ -1,17 +1,84 @@
-//! A safe wrapper over Bulanevior's static library: slices in, enums out, nothing allocated.
+//! A safe wrapper over Bulanevior's static library, a proved checker for the logic of a touring lighting desk: slices in, enums
+//! out, nothing allocated, no `std`.
 //!
 //! A slice keeps what include/bulanevior.h asks of a list, so every function here is safe to call with anything.
 //! 96 KiB of stack beside the lent lists are enough.
 //!
 //! `Ok` comes from a number that is named in `raw`, and from no other. Any other number, 0 too, means that the library is
 //! of another version than this crate, or that its record was not filled: that is `Refusal::Mismatch`. Nothing panics.
+//!
+//! Every answer prints itself as a sentence for the operator, the one that include/bulanevior_text.h has in C.
+//!
+//! ```
+//! use bulanevior::*;
+//! // A level of 0 to 1,000, an action that takes 5 off where it is at least 5, and two lemmas: it stays on its range.
+//! let words = [
+//!     0x100003E8, 0x40000000, 0x50000000, 0x60000011, 0x2FFFFFFB, 0x30000001, 0x70000000, 0x2FFFFFFB, 0x30000001, 0xF0000000,
+//!     0x90030000, 0x80000000, 0xA0000001, 0xA0000001, 0x90040000, 0x80000000, 0xA0000001, 0xA0000000u32,
+//! ];
+//! let file: Vec<u8> = words.iter().flat_map(|word| word.to_le_bytes()).collect();
+//!
+//! let (mut words, mut graph, mut path) = (vec![0; SHOW_WORDS], vec![0; GRAPH_WORDS], vec![0; PATH_WORDS]);
+//! let shown = show(&file, &mut words, &mut graph, &mut path)?;
+//! assert!(shown.is_safe());
+//! assert_eq!(shown.to_string(), "safe: nodes 1, edges 1");
+//! # Ok::<(), NoShow>(())
+//! ```
+#![no_std]
+#![deny(missing_docs)]
+
+#[cfg(test)]
+extern crate std;
 
 #[cfg(not(target_pointer_width = "64"))]
 compile_error!("64-bit numbers only");
 
+mod answers;
 pub mod raw;
+mod text;
+pub mod word;
 
-use std::fmt;
+pub use answers::*;
+pub use text::Presses;
+pub use word::{kind, payload};
+
+/// The version of this crate.
+pub const VERSION: &str = env!("CARGO_PKG_VERSION");
+/// The same as a number: major times 1,000,000, minor times 1,000, and patch.
+pub const VERSION_NUMBER: u32 = raw::BNV_VERSION_NUMBER;
+
+/// The number of the library's version. It belongs to this crate where it is `VERSION_NUMBER`.
+///
+/// ```
+/// assert_eq!(bulanevior::version(), bulanevior::VERSION_NUMBER);
+/// ```
+pub fn version() -> u32 {
+    raw::version()
+}
+
+/// Do this crate and the library that it is linked with belong together?
+///
+/// ```
+/// assert!(bulanevior::versions_match());
+/// ```
+pub fn versions_match() -> bool {
+    version() == VERSION_NUMBER
+}
+
+/// The most variables of a logic.
+pub const MOST_VARIABLES: usize = raw::BNV_MOST_VARIABLES as usize;
+/// The most start rows of a logic.
+pub const MOST_START_ROWS: usize = raw::BNV_MOST_START_ROWS as usize;
+/// The most predicates of a logic.
+pub const MOST_PREDICATES: usize = raw::BNV_MOST_PREDICATES as usize;
+/// The most guard rows of an action.
+pub const MOST_GUARD_ROWS: usize = raw::BNV_MOST_GUARD_ROWS as usize;
+/// The most assignments of an action.
+pub const MOST_ASSIGNMENTS: usize = raw::BNV_MOST_ASSIGNMENTS as usize;
+/// The most forbidden combinations of a logic.
+pub const MOST_FORBIDDEN: usize = raw::BNV_MOST_FORBIDDEN as usize;
+/// The most lemmas of a list.
+pub const MOST_LEMMAS: usize = raw::BNV_MOST_LEMMAS as usize;
 
 /// The most nodes of a graph.
 pub const MOST_NODES: usize = raw::BNV_MOST_NODES as usize;
@@ -33,159 +100,14 @@ pub const SHOW_WORDS: usize = raw::BNV_SHOW_WORDS as usize;
 /// The most findings of a graph: a list of as many words is never too short for `findings`.
 pub const MOST_FINDINGS: usize = raw::BNV_MOST_FINDINGS as usize;
 
-/// A word's kind, its bits 31 to 28.
-pub fn kind(word: u32) -> u32 {
-    word >> 28
-}
-
-/// A word's payload, its bits 27 to 0.
-pub fn payload(word: u32) -> u32 {
-    word & 0x0FFF_FFFF
-}
-
-/// Why a call refuses, with the value that is returned with the refusal. A refusal leaves every lent list, but for `Nodes`,
-/// which zeroes the first `GRAPH_WORDS` words of the graph list, for `Findings`, which comes with the graph in it, and for the
-/// words list of `show`, which has the show's words.
-#[derive(Clone, Copy, Debug, PartialEq, Eq)]
-pub enum Refusal {
-    /// A lent list is too short: 0 the graph list or a view's, 1 the path list.
-    Short(usize),
-    /// A program word missing, of the wrong kind, after END, or with an unnamed bit; a view meets no EDGE. The word's index.
-    Word(usize),
-    /// One too many, or a count too high: the word's index. A view of over `MOST_NODES` nodes or `MOST_ACTIONS` actions: 0.
-    Limit(usize),
-    /// A program word with a value that is not allowed: its index.
-    Value(usize),
-    /// A lemma word missing or against the rules: its index.
-    Lemma(usize),
-    /// A 513th lemma: its index.
-    Lemmas(usize),
-    /// A 513th node is needed.
-    Nodes,
-    /// No such action, lemma or node: its number.
-    Absent(usize),
-    /// The state's length is not the number of variables: that length.
-    Length(usize),
-    /// A state value off its range: the lowest such variable.
-    State(usize),
-    /// A lemma's sum leaves signed 64 bits: the lowest such lemma.
-    Sum(usize),
-    /// The findings list is too short: how many words it needs.
-    Findings(usize),
-    /// No refusal of the library: its answer, or its refusal, has a number that is none, or it answers not enabled and names
-    /// no guard row that fails. The number is given here. The library is of another version than this crate. There is no
-    /// verdict; say it loudly.
-    Mismatch(u32),
-}
-
-impl Refusal {
-    fn of(number: u32, value: usize) -> Refusal {
-        match number {
-            raw::BNV_REFUSED_SHORT => Refusal::Short(value),
-            raw::BNV_REFUSED_WORD => Refusal::Word(value),
-            raw::BNV_REFUSED_LIMIT => Refusal::Limit(value),
-            raw::BNV_REFUSED_VALUE => Refusal::Value(value),
-            raw::BNV_REFUSED_LEMMA => Refusal::Lemma(value),
-            raw::BNV_REFUSED_LEMMAS => Refusal::Lemmas(value),
-            raw::BNV_REFUSED_NODES => Refusal::Nodes,
-            raw::BNV_REFUSED_ABSENT => Refusal::Absent(value),
-            raw::BNV_REFUSED_LENGTH => Refusal::Length(value),
-            raw::BNV_REFUSED_STATE => Refusal::State(value),
-            raw::BNV_REFUSED_SUM => Refusal::Sum(value),
-            raw::BNV_REFUSED_FINDINGS => Refusal::Findings(value),
-            other => Refusal::Mismatch(other),
-        }
-    }
-
-    /// The number in the table of refusals; of `Mismatch`, which is in no table, `u32::MAX`. Never 0.
-    pub fn number(self) -> u32 {
-        match self {
-            Refusal::Short(_) => raw::BNV_REFUSED_SHORT,
-            Refusal::Word(_) => raw::BNV_REFUSED_WORD,
-            Refusal::Limit(_) => raw::BNV_REFUSED_LIMIT,
-            Refusal::Value(_) => raw::BNV_REFUSED_VALUE,
-            Refusal::Lemma(_) => raw::BNV_REFUSED_LEMMA,
-            Refusal::Lemmas(_) => raw::BNV_REFUSED_LEMMAS,
-            Refusal::Nodes => raw::BNV_REFUSED_NODES,
-            Refusal::Absent(_) => raw::BNV_REFUSED_ABSENT,
-            Refusal::Length(_) => raw::BNV_REFUSED_LENGTH,
-            Refusal::State(_) => raw::BNV_REFUSED_STATE,
-            Refusal::Sum(_) => raw::BNV_REFUSED_SUM,
-            Refusal::Findings(_) => raw::BNV_REFUSED_FINDINGS,
-            Refusal::Mismatch(_) => u32::MAX,
-        }
-    }
-
-    /// The value that is returned with it; of `Mismatch` the number that it gives.
-    pub fn value(self) -> usize {
-        match self {
-            Refusal::Nodes => MOST_NODES,
-            Refusal::Mismatch(n) => n as usize,
-            Refusal::Short(n)
-            | Refusal::Word(n)
-            | Refusal::Limit(n)
-            | Refusal::Value(n)
-            | Refusal::Lemma(n)
-            | Refusal::Lemmas(n)
-            | Refusal::Absent(n)
-            | Refusal::Length(n)
-            | Refusal::State(n)
-            | Refusal::Sum(n)
-            | Refusal::Findings(n) => n,
-        }
-    }
-}
-
-/// A sentence for the operator, with number and value behind it as the operator's program prints them.
-impl fmt::Display for Refusal {
-    fn fmt(&self, f: &mut fmt::Formatter<'_>) -> fmt::Result {
-        match *self {
-            Refusal::Short(_) => write!(f, "a lent list is too short, a fault of the caller")?,
-            Refusal::Word(n) => write!(
-                f,
-                "word {n} is missing, of the wrong kind, after the end, or has a stray bit"
-            )?,
-            Refusal::Limit(n) => write!(
-                f,
-                "word {n} is one too many of its kind, or counts too many"
-            )?,
-            Refusal::Value(n) => write!(f, "word {n} has a number that is not allowed")?,
-            Refusal::Lemma(n) => {
-                write!(f, "word {n} of the lemmas is missing or against the rules")?
-            }
-            Refusal::Lemmas(n) => {
-                write!(f, "word {n} of the lemmas begins one more than 512 lemmas")?
-            }
-            Refusal::Nodes => write!(f, "the picture of this show needs more than 512 nodes")?,
-            Refusal::Absent(n) => write!(f, "there is no action, lemma or node {n}")?,
-            Refusal::Length(n) => write!(f, "the state has {n} values, not one for each variable")?,
-            Refusal::State(n) => write!(f, "the value of variable {n} is off its range")?,
-            Refusal::Sum(n) => write!(f, "the sum of lemma {n} does not fit 64 bits")?,
-            Refusal::Findings(n) => {
-                write!(f, "the findings list is too short, {n} words are needed")?
-            }
-            Refusal::Mismatch(n) => {
-                return write!(
-                    f,
-                    "the library is of another version: {n} is no answer of this one"
-                )
-            }
-        }
-        write!(f, " ({} AT {})", self.number(), self.value())
-    }
-}
-
-/// The five counts of a program.
-#[derive(Clone, Copy, Debug, PartialEq, Eq)]
-pub struct Counts {
-    pub variables: usize,
-    pub start_rows: usize,
-    pub predicates: usize,
-    pub actions: usize,
-    pub forbidden: usize,
-}
-
 /// Is the list a program, and what are its counts?
+///
+/// ```
+/// # use bulanevior::*;
+/// # let logic = [0x100003E8, 0x40000000, 0x50000000, 0x60000011, 0x2FFFFFFB, 0x30000001, 0x70000000, 0x2FFFFFFB, 0x30000001, 0xF0000000];
+/// assert_eq!(check(&logic).map(|counts| counts.actions), Ok(1));
+/// assert_eq!(check(&logic[..9]), Err(Refusal::Word(9)));
+/// ```
 pub fn check(words: &[u32]) -> Result<Counts, Refusal> {
     checked(raw::check(words))
 }
@@ -205,6 +127,13 @@ fn checked(c: raw::BnvCheck) -> Result<Counts, Refusal> {
 }
 
 /// The words of action k, as a part of the list; empty where the list is no program or has no such action.
+///
+/// ```
+/// # use bulanevior::*;
+/// # let logic = [0x100003E8, 0x40000000, 0x50000000, 0x60000011, 0x2FFFFFFB, 0x30000001, 0x70000000, 0x2FFFFFFB, 0x30000001, 0xF0000000];
+/// assert_eq!(action_part(&logic, 0), &logic[3..9]);
+/// assert!(action_part(&logic, 1).is_empty());
+/// ```
 pub fn action_part(words: &[u32], k: usize) -> &[u32] {
     let p = raw::action_part(words, k);
     words
@@ -213,38 +142,18 @@ pub fn action_part(words: &[u32], k: usize) -> &[u32] {
         .unwrap_or(&[])
 }
 
-/// How near an action was that is not enabled: the first of its guard rows that fails, counted from 0, and the row's value at
-/// the state, which is below 0.
-#[derive(Clone, Copy, Debug, PartialEq, Eq)]
-pub struct Failing {
-    pub row: usize,
-    pub value: i32,
-}
-
-/// "guard row 1 lacks 5": the row is worth -5.
-impl fmt::Display for Failing {
-    fn fmt(&self, f: &mut fmt::Formatter) -> fmt::Result {
-        write!(
-            f,
-            "guard row {} lacks {}",
-            self.row,
-            self.value.unsigned_abs()
-        )
-    }
-}
-
-/// What an action does to a state.
-#[derive(Clone, Copy, Debug, PartialEq, Eq)]
-pub enum Step {
-    /// The new values have been written.
-    Moved,
-    /// How near it was.
-    NotEnabled(Failing),
-    /// The lowest variable whose new value is off its range.
-    RunsOff(usize),
-}
-
 /// Action k, tried on a state. Only `Moved` writes.
+///
+/// ```
+/// # use bulanevior::*;
+/// # let logic = [0x100003E8, 0x40000000, 0x50000000, 0x60000011, 0x2FFFFFFB, 0x30000001, 0x70000000, 0x2FFFFFFB, 0x30000001, 0xF0000000];
+/// let mut state = [8];
+/// assert_eq!(step(&logic, 0, &mut state), Ok(Step::Moved));
+/// assert_eq!(state, [3]);
+/// let near = Failing { row: 0, value: -2 };
+/// assert_eq!(step(&logic, 0, &mut state), Ok(Step::NotEnabled(near)));
+/// assert_eq!(near.to_string(), "guard row 0 lacks 2");
+/// ```
 pub fn step(words: &[u32], k: usize, state: &mut [i32]) -> Result<Step, Refusal> {
     stepped(raw::step(words, k, state))
 }
@@ -270,19 +179,20 @@ fn stepped(s: raw::BnvStep) -> Result<Step, Refusal> {
     }
 }
 
-/// What a rack, which holds each variable in sixteen bits, does with an action.
-#[derive(Clone, Copy, Debug, PartialEq, Eq)]
-pub enum Rack {
-    /// What the rack stores has been written: the new values modulo 65,536, in two's complement. They may be off their ranges.
-    Moved,
-    /// How near it was.
-    NotEnabled(Failing),
-}
-
 /// The rack's step: action k, tried on a state. Guards are worked out exactly; sums and products wrap in sixteen bits.
 ///
 /// Where `step` does not answer `RunsOff`, it answers and writes the same; so after the verdict safe the rack's values are the
 /// exact ones, from every start state and along every list of actions.
+///
+/// ```
+/// # use bulanevior::*;
+/// // Takes 10 off, with no guard.
+/// let logic = [0x100003E8, 0x40000000, 0x50000000, 0x60000001, 0x70000000, 0x2FFFFFF6, 0x30000001, 0xF0000000];
+/// let mut state = [5];
+/// assert_eq!(step(&logic, 0, &mut state), Ok(Step::RunsOff(0)));
+/// assert_eq!(rack_step(&logic, 0, &mut state), Ok(Rack::Moved));
+/// assert_eq!(state, [-5]);
+/// ```
 pub fn rack_step(words: &[u32], k: usize, state: &mut [i32]) -> Result<Rack, Refusal> {
     racked(raw::rack_step(words, k, state))
 }
@@ -296,15 +206,15 @@ fn racked(s: raw::BnvStep) -> Result<Rack, Refusal> {
     }
 }
 
-/// Whether a lemma is accepted.
-#[derive(Clone, Copy, Debug, PartialEq, Eq)]
-pub enum Ask {
-    /// The lemma is true of all whole numbers in the ranges.
-    Accepted,
-    NotAccepted,
-}
-
 /// Is lemma k of the list accepted?
+///
+/// ```
+/// # use bulanevior::*;
+/// # let logic = [0x100003E8, 0x40000000, 0x50000000, 0x60000011, 0x2FFFFFFB, 0x30000001, 0x70000000, 0x2FFFFFFB, 0x30000001, 0xF0000000];
+/// # let lemmas = [0x90030000, 0x80000000, 0xA0000001, 0xA0000001, 0x90040000, 0x80000000, 0xA0000001, 0xA0000000];
+/// assert_eq!(ask(&logic, &lemmas, 0), Ok(Ask::Accepted));
+/// assert_eq!(ask(&logic, &lemmas, 2), Err(Refusal::Absent(2)));
+/// ```
 pub fn ask(words: &[u32], lemmas: &[u32], k: usize) -> Result<Ask, Refusal> {
     asked(raw::ask(words, lemmas, k))
 }
@@ -318,66 +228,25 @@ fn asked(a: raw::BnvAsk) -> Result<Ask, Refusal> {
     }
 }
 
-/// An end of a range.
-#[derive(Clone, Copy, Debug, PartialEq, Eq)]
-pub enum End {
-    Low,
-    High,
-}
-
-#[derive(Clone, Copy, Debug, PartialEq, Eq)]
-pub enum Verdict {
-    /// No list of actions, however long, tried from any start state, meets a forbidden state or runs a variable off its range.
-    Safe,
-    MayForbid {
-        node: usize,
-        combination: usize,
-    },
-    MayRunOff {
-        node: usize,
-        action: usize,
-        variable: usize,
-        end: End,
-    },
-}
-
-impl Verdict {
-    /// The finding that it is, if it is one.
-    pub fn finding(self) -> Option<Finding> {
-        match self {
-            Verdict::Safe => None,
-            Verdict::MayForbid { node, combination } => {
-                Some(Finding::MayForbid { node, combination })
-            }
-            Verdict::MayRunOff {
-                node,
-                action,
-                variable,
-                end,
-            } => Some(Finding::MayRunOff {
-                node,
-                action,
-                variable,
-                end,
-            }),
-        }
-    }
-}
-
-/// A verdict, and the counts of the graph's nodes and edges.
-#[derive(Clone, Copy, Debug, PartialEq, Eq)]
-pub struct Judgement {
-    pub verdict: Verdict,
-    pub nodes: usize,
-    pub edges: usize,
-}
-
 /// The graph into the first `GRAPH_WORDS` words of one list, the verdict, and the path to its node into the first `PATH_WORDS`
 /// words of the other. The lists need that many words; further ones are left. A predicate whose row has no coefficient on any
 /// variable that an action sets keeps its literal across that action without a lemma.
 ///
 /// The path of a finding can't be beaten: no walk in the graph, from node 0 to any node with a finding, has fewer steps; and from any
 /// start state nothing really goes wrong before as many actions have moved the show as the path has.
+///
+/// ```
+/// # use bulanevior::*;
+/// # let logic = [0x100003E8, 0x40000000, 0x50000000, 0x60000011, 0x2FFFFFFB, 0x30000001, 0x70000000, 0x2FFFFFFB, 0x30000001, 0xF0000000];
+/// # let lemmas = [0x90030000, 0x80000000, 0xA0000001, 0xA0000001, 0x90040000, 0x80000000, 0xA0000001, 0xA0000000];
+/// let (mut graph, mut path) = ([0; GRAPH_WORDS], [0; PATH_WORDS]);
+/// let judged = judge(&logic, &lemmas, &mut graph, &mut path)?;
+/// assert_eq!(judged.verdict, Verdict::Safe);
+/// let judged = judge(&logic, &[], &mut graph, &mut path)?;
+/// assert_eq!(judged.to_string(), "action 0 may take variable 0 below its low end at node 0");
+/// assert_eq!(Presses(&path).to_string(), "actions: none");
+/// # Ok::<(), Refusal>(())
+/// ```
 pub fn judge(
     words: &[u32],
     lemmas: &[u32],
@@ -411,58 +280,15 @@ fn judged(j: raw::BnvJudge) -> Result<Judgement, Refusal> {
 }
 
 /// The actions of a path list that `judge` has filled.
-pub fn actions(path: &[u32]) -> impl Iterator<Item = u32> + '_ {
+///
+/// ```
+/// use bulanevior::*;
+/// assert!(actions(&[0xD0000002, 0xD0000000, 0, 0]).eq([2, 0]));
+/// ```
+pub fn actions(path: &[u32]) -> impl Iterator<Item = usize> + '_ {
     path.iter()
-        .copied()
-        .take_while(|&w| kind(w) == raw::BNV_STEP)
-        .map(payload)
-}
-
-/// A node with a forbidden combination that it may meet, or with an action that may run a variable off an end of its range.
-#[derive(Clone, Copy, Debug, PartialEq, Eq)]
-pub enum Finding {
-    MayForbid {
-        node: usize,
-        combination: usize,
-    },
-    MayRunOff {
-        node: usize,
-        action: usize,
-        variable: usize,
-        end: End,
-    },
-}
-
-impl Finding {
-    /// The finding that a word is: node in bits 27 to 19, bit 18 set for a run-off, action in 17 to 14, combination or variable
-    /// in 13 to 11, bit 0 set for the high end. None if the word is of another kind or has another bit.
-    pub fn of(word: u32) -> Option<Finding> {
-        let bits = |high: u32, low: u32| (word >> low & ((2 << (high - low)) - 1)) as usize;
-        if kind(word) != raw::BNV_FINDING || bits(10, 1) != 0 {
-            return None;
-        }
-        let (node, action, place) = (bits(27, 19), bits(17, 14), bits(13, 11));
-        if bits(18, 18) == 1 {
-            return Some(Finding::MayRunOff {
-                node,
-                action,
-                variable: place,
-                end: if bits(0, 0) == 1 { End::High } else { End::Low },
-            });
-        }
-        let none = action == 0 && bits(0, 0) == 0;
-        none.then_some(Finding::MayForbid {
-            node,
-            combination: place,
-        })
-    }
-
-    /// Its node.
-    pub fn node(self) -> usize {
-        match self {
-            Finding::MayForbid { node, .. } | Finding::MayRunOff { node, .. } => node,
-        }
-    }
+        .take_while(|&&w| kind(w) == raw::BNV_STEP)
+        .map(|&w| payload(w) as usize)
 }
 
 /// All findings of one check, each once, in the order in which Judge looks for them, and their number. They go to the front of
@@ -499,12 +325,29 @@ fn found(f: raw::BnvFindings) -> Result<usize, Refusal> {
 }
 
 /// The findings of a list that `findings` has filled.
+///
+/// ```
+/// # use bulanevior::*;
+/// let list = [0xE0080800, 0, 0];
+/// assert!(listed(&list).eq([Finding::MayForbid { node: 1, combination: 1 }]));
+/// ```
 pub fn listed(list: &[u32]) -> impl Iterator<Item = Finding> + '_ {
     list.iter().map_while(|&w| Finding::of(w))
 }
 
 /// The first words of a node's record in a graph list that `judge`, `show` or `findings` has filled: SETS, ORIGIN and DISTANCE.
 /// None where the list has no such record, as behind the last node: the words there are zero.
+///
+/// ```
+/// # use bulanevior::*;
+/// // Two nodes of a logic with one action.
+/// let graph = [0x80000001, 0xB0001FFF, 0, 0xC0000001, 0x80004000, 0xB0000000, 1, 0xCFFFFFFF];
+/// assert_eq!(header(&graph, 1, 0), Some([0x80000001, 0xB0001FFF, 0]));
+/// assert_eq!(known(&graph, 1, 1), Some((0, 1)));
+/// assert_eq!(origin(&graph, 1, 1), Some((0, 0)));
+/// assert_eq!(distance(&graph, 1, 1), Some(1));
+/// assert_eq!(header(&graph, 1, 2), None);
+/// ```
 pub fn header(graph: &[u32], actions: usize, node: usize) -> Option<[u32; HEADER_WORDS]> {
     let place = node.checked_mul(HEADER_WORDS.checked_add(actions)?)?;
     let words = *graph.get(place..)?.first_chunk()?;
@@ -516,15 +359,13 @@ pub fn header(graph: &[u32], actions: usize, node: usize) -> Option<[u32; HEADER
 /// None where the list has no such record.
 pub fn known(graph: &[u32], actions: usize, node: usize) -> Option<(u32, u32)> {
     let word = header(graph, actions, node)?[0];
-    Some((word & 0x3FFF, payload(word) >> 14))
+    Some((word::sets_hold(word), word::sets_fail(word)))
 }
 
 /// Where a node was first found, by its ORIGIN word in such a list: its parent and the action. None for node 0, and where the
 /// list has no such record.
 pub fn origin(graph: &[u32], actions: usize, node: usize) -> Option<(usize, usize)> {
-    let word = header(graph, actions, node)?[1];
-    let (parent, action) = (payload(word) >> 4 & 511, word & 15);
-    (payload(word) != 0x1FFF).then_some((parent as usize, action as usize))
+    word::origin(header(graph, actions, node)?[1])
 }
 
 /// How far a node is from node 0, by its DISTANCE word in such a list: the fewest actions that lead to it. None where the list has no
@@ -533,48 +374,15 @@ pub fn distance(graph: &[u32], actions: usize, node: usize) -> Option<usize> {
     Some(payload(header(graph, actions, node)?[2]) as usize)
 }
 
-/// A show, as its bytes were read: the lists for `check`, `action_part`, `step`, `rack_step` and `ask`, and Judge's answer.
-#[derive(Clone, Copy, Debug, PartialEq, Eq)]
-pub struct Show<'a> {
-    /// The words up to the first of kind 15 and with it; without one, all words.
-    pub logic: &'a [u32],
-    pub lemmas: &'a [u32],
-    pub answer: Result<Judgement, Refusal>,
-}
-
-impl Show<'_> {
-    /// May the show be loaded?
-    pub fn is_safe(&self) -> bool {
-        self.answer.is_ok_and(|j| j.verdict == Verdict::Safe)
-    }
-}
-
-/// Why there is nothing to judge. Every lent list is as it was.
-#[derive(Clone, Copy, Debug, PartialEq, Eq)]
-pub enum NoShow {
-    /// More than `SHOW_BYTES` bytes.
-    TooLong,
-    /// A number of bytes that is no multiple of 4: the file was cut.
-    OddBytes,
-    /// The words list has fewer than `SHOW_WORDS` words.
-    WordsShort,
-    /// A number that is no answer, as `Refusal::Mismatch`.
-    Mismatch(u32),
-}
-
-impl fmt::Display for NoShow {
-    fn fmt(&self, f: &mut fmt::Formatter<'_>) -> fmt::Result {
-        match *self {
-            NoShow::TooLong => write!(f, "too long: more than 65,536 bytes"),
-            NoShow::OddBytes => write!(f, "odd bytes: the file was cut"),
-            NoShow::WordsShort => write!(f, "the lent words list is too short"),
-            NoShow::Mismatch(n) => Refusal::Mismatch(n).fmt(f),
-        }
-    }
-}
-
 /// Judges the bytes of a show file, little-endian words. Its words go to the front of the words list; further ones are left. The
 /// other two lists are as those of `judge`.
+///
+/// ```
+/// use bulanevior::*;
+/// let (mut words, mut graph, mut path) = (vec![0; SHOW_WORDS], vec![0; GRAPH_WORDS], vec![0; PATH_WORDS]);
+/// let cut = show(&[0xE8, 0x03, 0x00], &mut words, &mut graph, &mut path);
+/// assert_eq!(cut, Err(NoShow::OddBytes));
+/// ```
 pub fn show<'a>(
     bytes: &[u8],
     words: &'a mut [u32],
@@ -625,6 +433,14 @@ impl<'a> View<'a> {
     }
 
     /// The successor for a node and an action, if it has one.
+    ///
+    /// ```
+    /// use bulanevior::*;
+    /// let graph = [0x80000001, 0xB0001FFF, 0, 0xC0000001, 0x80004000, 0xB0000000, 1, 0xCFFFFFFF];
+    /// let view = View::new(&graph, 2, 1);
+    /// assert_eq!(view.successor(0, 0), Ok(Some(1)));
+    /// assert_eq!(view.successor(1, 0), Ok(None));
+    /// ```
     pub fn successor(&self, node: usize, action: usize) -> Result<Option<usize>, Refusal> {
         succeeded(raw::successor(
             self.graph,
@@ -649,156 +465,4 @@ fn succeeded(s: raw::BnvSuccessor) -> Result<Option<usize>, Refusal> {
 mod fields;
 
 #[cfg(test)]
-mod tests {
-    use super::*;
-    use raw::*;
-
-    /// Every number up to 20 and the largest as an answer, with no other field filled: those named are `Ok` or a refusal
-    /// that is none, the others a mismatch.
-    fn tried<T>(named: &[u32], call: impl Fn(u32) -> Result<T, Refusal>) {
-        for n in (0..20).chain([u32::MAX]) {
-            let answer = call(n);
-            assert_eq!(answer.is_ok(), named.contains(&n), "{n}");
-            if let Err(why) = answer {
-                assert!(
-                    matches!(why, Refusal::Mismatch(m) if m == n || m == 0),
-                    "{n}: {why:?}"
-                );
-                assert_eq!(why.number(), u32::MAX);
-            }
-        }
-    }
-
-    #[test]
-    fn zeros_and_unknown_numbers_permit_nothing() {
-        tried(&[BNV_GOOD], |answer| {
-            checked(BnvCheck {
-                answer,
-                refusal: 0,
-                value: 0,
-                variables: 0,
-                start_rows: 0,
-                predicates: 0,
-                actions: 0,
-                forbidden: 0,
-            })
-        });
-        tried(&[BNV_NOT_ENABLED, BNV_RUNS_OFF, BNV_MOVED], |answer| {
-            stepped(BnvStep {
-                answer,
-                row: 0,
-                variable: 0,
-                refusal: 0,
-                row_value: -1,
-                value: 0,
-            })
-        });
-        tried(&[BNV_NOT_ENABLED, BNV_MOVED], |answer| {
-            racked(BnvStep {
-                answer,
-                row: 0,
-                variable: 0,
-                refusal: 0,
-                row_value: -1,
-                value: 0,
-            })
-        });
-        tried(&[BNV_NOT_ACCEPTED, BNV_ACCEPTED], |answer| {
-            asked(BnvAsk {
-                answer,
-                refusal: 0,
-                value: 0,
-            })
-        });
-        tried(&[BNV_LISTED], |answer| {
-            found(BnvFindings {
-                answer,
-                refusal: 0,
-                value: 0,
-                count: 0,
-            })
-        });
-        tried(&[BNV_NO_NODE, BNV_NODE], |answer| {
-            succeeded(BnvSuccessor {
-                answer,
-                node: 0,
-                refusal: 0,
-                value: 0,
-            })
-        });
-    }
-
-    /// A record of zeros but for the verdict.
-    fn verdict(verdict: u32) -> BnvJudge {
-        BnvJudge {
-            verdict,
-            node: 0,
-            place: 0,
-            variable: 0,
-            high: 0,
-            nodes: 0,
-            edges: 0,
-            refusal: 0,
-            value: 0,
-        }
-    }
-
-    #[test]
-    fn only_its_own_number_is_safe() {
-        tried(&[BNV_MAY_FORBID, BNV_MAY_RUN_OFF, BNV_SAFE], |n| {
-            judged(verdict(n))
-        });
-        for n in (0..20).chain([u32::MAX]) {
-            let safe = judged(verdict(n)).is_ok_and(|j| j.verdict == Verdict::Safe);
-            assert_eq!(safe, n == BNV_SAFE, "{n}");
-        }
-    }
-
-    #[test]
-    fn only_a_judged_show_is_safe() {
-        let words = [1, 2, 3];
-        for answer in (0..20).chain([u32::MAX]) {
-            for judged in [0, BNV_SAFE] {
-                for (logic, lemmas) in [(0, 0), (1, 2), (4, 0), (3, 1), (usize::MAX, 1)] {
-                    let s = BnvShow {
-                        answer,
-                        logic,
-                        lemmas,
-                        judged: verdict(judged),
-                    };
-                    let safe = shown(s, &words).is_ok_and(|s| s.is_safe());
-                    let good = answer == BNV_JUDGED && judged == BNV_SAFE && logic < 3;
-                    assert_eq!(safe, good, "{s:?}");
-                }
-            }
-        }
-        let none = |answer| {
-            let judged = verdict(0);
-            shown(
-                BnvShow {
-                    answer,
-                    logic: 0,
-                    lemmas: 0,
-                    judged,
-                },
-                &words,
-            )
-        };
-        assert_eq!(none(0), Err(NoShow::Mismatch(0)));
-        assert_eq!(none(BNV_TOO_LONG), Err(NoShow::TooLong));
-        assert_eq!(none(BNV_ODD_BYTES), Err(NoShow::OddBytes));
-        assert_eq!(none(BNV_WORDS_SHORT), Err(NoShow::WordsShort));
-        assert_eq!(
-            none(BNV_JUDGED).map(|s| s.answer),
-            Ok(Err(Refusal::Mismatch(0)))
-        );
-    }
-
-    #[test]
-    fn sentences_are_those_of_the_example_in_c() {
-        let said: String = (1..13)
-            .map(|n| format!("refused: {}\n", Refusal::of(n, 512)))
-            .collect();
-        assert_eq!(said, include_str!("../../tests/refusals.txt"));
-    }
-}
+mod tests;

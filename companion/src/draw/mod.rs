@@ -45,7 +45,7 @@ pub fn run(input: &Input) -> Result<Said, String> {
             let lines = picture(&graph, &caption(&show)?);
             Ok(Said::lines(lines.into_iter(), status))
         }
-        Answer::Refused(why) => Ok(Said::aside(why, Status::Refused)),
+        Answer::Refused(why) => Ok(Said::aside(why.sentence, Status::Refused)),
     }
 }
 

@@ -19,7 +19,6 @@ pub enum Place {
     NegatedGoal { lemma: usize },
     Premise { lemma: usize, predicate: usize },
     SourceRow { lemma: usize, row: usize },
-    Lemmas,
 }
 
 impl fmt::Display for Place {
@@ -45,7 +44,6 @@ impl fmt::Display for Place {
             Place::SourceRow { lemma, row } => {
                 write!(f, "row {row} of the source of lemma {lemma}")
             }
-            Place::Lemmas => write!(f, "the lemmas"),
         }
     }
 }

@@ -1,19 +1,19 @@
 //! Logics and lemmas as plain values, the rows that a lemma is about, and their words.
 use super::rows::{Range, Row};
-use bulanevior::raw::*;
+use bulanevior::{raw, word};
 
-/// The most start rows, guard rows or assignments of an action, and forbidden combinations.
-pub const ROWS: usize = 8;
+/// The most start rows, guard rows or assignments of an action, and forbidden combinations, which are the same.
+pub const ROWS: usize = bulanevior::MOST_START_ROWS;
 /// The most predicates of a logic.
-pub const PREDICATES: usize = 14;
+pub const PREDICATES: usize = bulanevior::MOST_PREDICATES;
 /// The most lemmas of a list.
-pub const LEMMAS: usize = 512;
+pub const LEMMAS: usize = bulanevior::MOST_LEMMAS;
 /// The ends of the widest range, and the limits of a row's constant, of a coefficient and of a multiplier.
-pub const LOWEST: i64 = -8_192;
-pub const HIGHEST: i64 = 8_191;
-pub const CONSTANT: i64 = 1_000_000;
-pub const COEFFICIENT: i64 = 1_000;
-pub const MULTIPLIER: i64 = 65_535;
+pub const LOWEST: i64 = raw::BNV_LOWEST as i64;
+pub const HIGHEST: i64 = raw::BNV_HIGHEST as i64;
+pub const CONSTANT: i64 = raw::BNV_MOST_CONSTANT as i64;
+pub const COEFFICIENT: i64 = raw::BNV_MOST_COEFFICIENT as i64;
+pub const MULTIPLIER: i64 = raw::BNV_MOST_MULTIPLIER as i64;
 
 /// Predicates that hold and predicates that fail, predicate p in bit p.
 #[derive(Clone, Copy, Debug, Default, PartialEq, Eq, PartialOrd, Ord, Hash)]
@@ -23,11 +23,11 @@ pub struct Literals {
 }
 
 impl Literals {
-    /// Those of the payload of a SETS word.
-    pub fn of(payload: u32) -> Literals {
+    /// Those of a SETS word.
+    pub fn of(sets: u32) -> Literals {
         Literals {
-            holds: payload & 0x3FFF,
-            fails: payload >> 14 & 0x3FFF,
+            holds: word::sets_hold(sets),
+            fails: word::sets_fail(sets),
         }
     }
 
@@ -66,7 +66,7 @@ impl Literals {
     }
 
     fn word(self) -> u32 {
-        word(BNV_SETS, self.fails << 14 | self.holds)
+        word::sets(self.holds, self.fails)
     }
 }
 
@@ -123,31 +123,20 @@ pub struct Show {
     pub lemmas: Vec<Lemma>,
 }
 
-fn word(kind: u32, payload: u32) -> u32 {
-    kind << 28 | payload & 0x0FFF_FFFF
-}
-
-/// The low bits of a number in two's complement.
-fn bits(number: i64, width: u32) -> u32 {
-    (number as u32) & ((1 << width) - 1)
-}
-
 impl Row {
     fn words(&self, words: &mut Vec<u32>) {
-        words.push(word(BNV_ROW, bits(self.constant, 28)));
-        words.extend(self.terms().map(|(variable, coefficient)| {
-            word(BNV_TERM, (variable as u32) << 24 | bits(coefficient, 16))
-        }));
+        words.push(word::row(self.constant as i32));
+        let term = |(variable, coefficient)| word::term(variable, coefficient as i32);
+        words.extend(self.terms().map(term));
     }
 }
 
 impl Action {
     fn words(&self, words: &mut Vec<u32>) {
-        let counts = self.guards.len() << 4 | self.sets.len();
-        words.push(word(BNV_ACTION, counts as u32));
+        words.push(word::action(self.guards.len(), self.sets.len()));
         self.guards.iter().for_each(|row| row.words(words));
         for (variable, row) in &self.sets {
-            words.push(word(BNV_SET, *variable as u32));
+            words.push(word::set(*variable));
             row.words(words);
         }
     }
@@ -156,16 +145,16 @@ impl Action {
 impl Logic {
     /// Its words, up to END and with it.
     pub fn words(&self) -> Vec<u32> {
-        let mut words: Vec<u32> = self.ranges.iter().map(|range| range.word()).collect();
-        for (kind, rows) in [(BNV_INIT, &self.start), (BNV_PRED, &self.predicates)] {
-            words.push(word(kind, rows.len() as u32));
-            rows.iter().for_each(|row| row.words(&mut words));
-        }
-        self.actions
-            .iter()
-            .for_each(|action| action.words(&mut words));
+        let var = |range: &Range| word::var(range.low as i32, range.high as i32);
+        let mut words: Vec<u32> = self.ranges.iter().map(var).collect();
+        words.push(word::init(self.start.len()));
+        self.start.iter().for_each(|row| row.words(&mut words));
+        words.push(word::pred(self.predicates.len()));
+        self.predicates.iter().for_each(|row| row.words(&mut words));
+        let actions = self.actions.iter();
+        actions.for_each(|action| action.words(&mut words));
         words.extend(self.forbidden.iter().map(|literals| literals.word()));
-        words.push(word(BNV_END, 0));
+        words.push(word::END);
         words
     }
 
@@ -209,28 +198,22 @@ impl Logic {
     }
 }
 
-impl Range {
-    fn word(&self) -> u32 {
-        word(BNV_VAR, bits(self.low, 14) << 14 | bits(self.high, 14))
-    }
-}
-
 impl Lemma {
     pub fn words(&self, words: &mut Vec<u32>) {
         let source = match self.source {
-            Source::Start => 255,
-            Source::Action(k) => k as u32,
+            Source::Start => raw::BNV_START as usize,
+            Source::Action(k) => k,
         };
         let (goal, index) = match self.goal {
-            Goal::Never => (0, 0),
-            Goal::Holds(p) => (1, p),
-            Goal::Fails(p) => (2, p),
-            Goal::Low(v) => (3, v),
-            Goal::High(v) => (4, v),
+            Goal::Never => (raw::BNV_GOAL_NEVER, 0),
+            Goal::Holds(p) => (raw::BNV_GOAL_HOLDS, p),
+            Goal::Fails(p) => (raw::BNV_GOAL_FAILS, p),
+            Goal::Low(v) => (raw::BNV_GOAL_LOW, v),
+            Goal::High(v) => (raw::BNV_GOAL_HIGH, v),
         };
-        words.push(word(BNV_LEMMA, source << 20 | goal << 16 | index as u32));
+        words.push(word::lemma(source, goal, index));
         words.push(self.premises.word());
-        words.extend(self.multipliers.iter().map(|m| word(BNV_MULT, *m as u32)));
+        words.extend(self.multipliers.iter().map(|&m| word::mult(m as u32)));
     }
 
     /// The largest value of its sum over the ranges. It is accepted exactly where this is below 0: so says the scope document, and

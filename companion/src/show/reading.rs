@@ -4,21 +4,10 @@ use super::fault::{stray, thousands, Fault, List, Place, Rule};
 use super::model::*;
 use super::rows::{Range, Row, VARIABLES};
 use bulanevior::raw::*;
-use bulanevior::{kind, payload, MOST_ACTIONS};
-
-/// A field of a word, signed, in two's complement.
-fn signed(word: u32, high: u32, low: u32) -> i64 {
-    let width = high - low + 1;
-    i64::from(((word << (31 - high)) as i32) >> (32 - width))
-}
-
-/// A field of a word that is a number.
-fn field(word: u32, high: u32, low: u32) -> usize {
-    (word >> low & ((2u32 << (high - low)).wrapping_sub(1))) as usize
-}
+use bulanevior::{kind, payload, word, MOST_ACTIONS};
 
 /// A list of words that is read from its front.
-struct Reader<'a> {
+pub struct Reader<'a> {
     words: &'a [u32],
     at: usize,
     list: List,
@@ -28,7 +17,17 @@ struct Reader<'a> {
     open: Option<Place>,
 }
 
-impl Reader<'_> {
+impl<'a> Reader<'a> {
+    fn new(words: &'a [u32], list: List, before: usize) -> Reader<'a> {
+        Reader {
+            words,
+            at: 0,
+            list,
+            before,
+            open: None,
+        }
+    }
+
     fn next(&self) -> Option<u32> {
         self.words.get(self.at).copied()
     }
@@ -62,19 +61,19 @@ impl Reader<'_> {
         self.fault(number, Rule::Due(format!("{more}{what}")))
     }
 
-    fn wrong(&self, number: u32, place: Place, why: impl Into<String>) -> Fault {
+    pub fn wrong(&self, number: u32, place: Place, why: impl Into<String>) -> Fault {
         self.fault(number, Rule::Wrong(place, why.into()))
     }
 
     /// The next word, which has to be of this kind; it is taken only by `take`.
-    fn see(&self, wanted: u32, what: impl std::fmt::Display) -> Result<u32, Fault> {
+    pub fn see(&self, wanted: u32, what: impl std::fmt::Display) -> Result<u32, Fault> {
         match self.next() {
             Some(word) if kind(word) == wanted => Ok(word),
             _ => Err(self.due(what)),
         }
     }
 
-    fn take(&mut self) {
+    pub fn take(&mut self) {
         self.at += 1;
         self.open = None;
     }
@@ -119,7 +118,7 @@ impl Reader<'_> {
     /// A ROW and its TERMs.
     fn row(&mut self, variables: usize, place: Place) -> Result<Row, Fault> {
         let word = self.see(BNV_ROW, format!("the ROW of {place}"))?;
-        let constant = signed(word, 27, 0);
+        let constant = i64::from(word::row_constant(word));
         self.within("constant", constant, CONSTANT, place)?;
         let mut row = Row::constant(constant);
         let mut least = 0;
@@ -137,7 +136,10 @@ impl Reader<'_> {
     fn term(&self, least: usize, variables: usize, place: Place) -> Result<(usize, i64), Fault> {
         let word = self.words[self.at];
         self.clean(word, 0x00FF_0000, BNV_REFUSED_WORD, place)?;
-        let (variable, coefficient) = (field(word, 27, 24), signed(word, 15, 0));
+        let (variable, coefficient) = (
+            word::term_variable(word),
+            i64::from(word::term_coefficient(word)),
+        );
         self.rising(variable, least, variables, place)?;
         self.within("coefficient", coefficient, COEFFICIENT, place)?;
         if coefficient == 0 {
@@ -155,7 +157,7 @@ impl Reader<'_> {
         variables: usize,
         (all, each): (Place, fn(usize) -> Place),
     ) -> Result<Vec<Row>, Fault> {
-        let count = field(self.see(wanted, what)?, 27, 0);
+        let count = payload(self.see(wanted, what)?) as usize;
         if count > most {
             let why = format!(
                 "it counts {}, allowed are 0 to {most}",
@@ -176,7 +178,7 @@ impl Reader<'_> {
                 let why = format!("one too many, allowed are {VARIABLES}");
                 return Err(self.wrong(BNV_REFUSED_LIMIT, place, why));
             }
-            let (low, high) = (signed(word, 27, 14), signed(word, 13, 0));
+            let [low, high] = [word::var_low(word), word::var_high(word)].map(i64::from);
             if low > high {
                 let (low, high) = (thousands(low), thousands(high));
                 let why = format!("the low end {low} is above the high end {high}");
@@ -197,7 +199,10 @@ impl Reader<'_> {
         if action == MOST_ACTIONS {
             return limit(format!("one too many, allowed are {MOST_ACTIONS}"));
         }
-        let (guards, sets) = (field(word, 7, 4), field(word, 3, 0));
+        let (guards, sets) = (
+            word::action_guard_rows(word),
+            word::action_assignments(word),
+        );
         for (count, what) in [(guards, "guard rows"), (sets, "assignments")] {
             if count > ROWS {
                 return limit(format!("it counts {count} {what}, allowed are 0 to {ROWS}"));
@@ -219,7 +224,7 @@ impl Reader<'_> {
             let place = Place::Assignment { action, number };
             let least = found.sets.last().map_or(0, |&(variable, _)| variable + 1);
             let word = self.see(BNV_SET, format!("the SET of {place}"))?;
-            let variable = field(word, 27, 0);
+            let variable = payload(word) as usize;
             self.rising(variable, least, variables, place)?;
             self.take();
             found.sets.push((variable, self.row(variables, place)?));
@@ -228,8 +233,13 @@ impl Reader<'_> {
     }
 
     /// The literals of a SETS word.
-    fn literals(&self, predicates: usize, number: u32, place: Place) -> Result<Literals, Fault> {
-        let literals = Literals::of(payload(self.words[self.at]));
+    pub fn literals(
+        &self,
+        predicates: usize,
+        number: u32,
+        place: Place,
+    ) -> Result<Literals, Fault> {
+        let literals = Literals::of(self.words[self.at]);
         let both = literals.holds & literals.fails;
         let why = match literals.each().find(|&(p, _)| p >= predicates) {
             Some((p, _)) => {
@@ -298,134 +308,23 @@ impl Reader<'_> {
             forbidden,
         })
     }
-
-    /// What a LEMMA word says, or what is wrong with it.
-    fn heading(&self, word: u32, logic: &Logic) -> Result<(Source, Goal), String> {
-        if let Some(why) = stray(word, 0x0000_FF00) {
-            return Err(why);
-        }
-        let (source, goal, index) = (field(word, 27, 20), field(word, 19, 16), field(word, 7, 0));
-        let actions = logic.actions.len();
-        let source = match source {
-            255 => Source::Start,
-            k if k < actions => Source::Action(k),
-            k => {
-                let known = format!("and the logic has {actions} actions, counted from 0");
-                return Err(format!("source {k} is neither an action, {known}, nor 255"));
-            }
-        };
-        let goal = match goal {
-            0 => Goal::Never,
-            1 => Goal::Holds(index),
-            2 => Goal::Fails(index),
-            3 => Goal::Low(index),
-            4 => Goal::High(index),
-            n => return Err(format!("goal {n}, allowed are 0 to 4")),
-        };
-        let (_, sets) = logic.source(source);
-        let known = logic.predicates.len();
-        match goal {
-            Goal::Never if index != 0 => {
-                Err(format!("goal 0 with index {index}, which has to be 0"))
-            }
-            Goal::Holds(p) | Goal::Fails(p) if p >= known => Err(format!(
-                "predicate {p}, and the logic has {known}, counted from 0"
-            )),
-            Goal::Low(_) | Goal::High(_) if source == Source::Start => {
-                Err("goals 3 and 4 speak of an action, and the source is the start".into())
-            }
-            Goal::Low(v) | Goal::High(v) if sets.iter().all(|&(set, _)| set != v) => {
-                Err(format!("its source does not set variable {v}"))
-            }
-            _ => Ok((source, goal)),
-        }
-    }
-
-    fn lemma(&mut self, number: usize, logic: &Logic) -> Result<Lemma, Fault> {
-        let place = Place::Lemma(number);
-        let word = self.see(BNV_LEMMA, format!("the LEMMA of {place} or the end"))?;
-        if number == LEMMAS {
-            let why = format!("one too many, allowed are {LEMMAS}");
-            return Err(self.wrong(BNV_REFUSED_LEMMAS, place, why));
-        }
-        let heading = self.heading(word, logic);
-        let (source, goal) = heading.map_err(|why| self.wrong(BNV_REFUSED_LEMMA, place, why))?;
-        self.take();
-        self.see(BNV_SETS, format!("the SETS of {place}"))?;
-        let premises = self.literals(logic.predicates.len(), BNV_REFUSED_LEMMA, place)?;
-        if source == Source::Start && !premises.is_empty() {
-            let why = "a lemma of the start has no premises";
-            return Err(self.wrong(BNV_REFUSED_LEMMA, place, why));
-        }
-        self.take();
-        let multipliers = multiplied(number, logic, source, goal, premises)
-            .into_iter()
-            .map(|row| self.multiplier(row))
-            .collect::<Result<_, _>>()?;
-        Ok(Lemma {
-            source,
-            goal,
-            premises,
-            multipliers,
-        })
-    }
-
-    fn multiplier(&mut self, row: Place) -> Result<i64, Fault> {
-        let word = self.see(BNV_MULT, format!("the MULT of {row}"))?;
-        let multiplier = i64::from(payload(word));
-        if multiplier > MULTIPLIER {
-            let (found, most) = (thousands(multiplier), thousands(MULTIPLIER));
-            let why = format!("multiplier {found}, allowed are 0 to {most}");
-            return Err(self.wrong(BNV_REFUSED_LEMMA, row, why));
-        }
-        self.take();
-        Ok(multiplier)
-    }
-}
-
-/// The rows that a lemma multiplies, in their order.
-fn multiplied(
-    lemma: usize,
-    logic: &Logic,
-    source: Source,
-    goal: Goal,
-    premises: Literals,
-) -> Vec<Place> {
-    let negated = (goal != Goal::Never).then_some(Place::NegatedGoal { lemma });
-    let premise = |(predicate, _)| Place::Premise { lemma, predicate };
-    let rows = (0..logic.source(source).0.len()).map(|row| Place::SourceRow { lemma, row });
-    let goal = negated.into_iter().chain(premises.each().map(premise));
-    goal.chain(rows).collect()
 }
 
 /// A logic, or the first word at fault.
 pub fn logic(words: &[u32]) -> Result<Logic, Fault> {
-    Reader {
-        words,
-        at: 0,
-        list: List::Logic,
-        before: 0,
-        open: None,
-    }
-    .logic()
+    Reader::new(words, List::Logic, 0).logic()
 }
 
 /// A logic and its lemmas, or the first word at fault.
 pub fn show(words: &[u32], lemmas: &[u32]) -> Result<Show, Fault> {
-    let logic = logic(words)?;
-    let mut reader = Reader {
-        words: lemmas,
-        at: 0,
-        list: List::Lemmas,
-        before: words.len(),
-        open: None,
+    let mut show = Show {
+        logic: logic(words)?,
+        lemmas: Vec::new(),
     };
-    let mut found = Vec::new();
+    let mut reader = Reader::new(lemmas, List::Lemmas, words.len());
     while reader.at < lemmas.len() {
-        found.push(reader.lemma(found.len(), &logic)?);
+        let lemma = reader.lemma(show.lemmas.len(), &show.logic)?;
+        show.lemmas.push(lemma);
     }
-    Ok(Show {
-        logic,
-        lemmas: found,
-    })
+    Ok(show)
 }

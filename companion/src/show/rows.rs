@@ -1,7 +1,7 @@
 //! Rows and ranges: what a row is worth at a state, its negation, its largest value over the ranges, and a row afterwards.
 
 /// The most variables of a logic.
-pub const VARIABLES: usize = 8;
+pub const VARIABLES: usize = bulanevior::MOST_VARIABLES;
 
 /// The values that a variable may have, both ends with them.
 #[derive(Clone, Copy, Debug, PartialEq, Eq)]
@@ -47,6 +47,26 @@ impl Row {
         }
         sum.constant += times * other.constant;
         sum
+    }
+
+    /// The same, unless a number is too large.
+    pub fn plus_checked(&self, times: i64, other: &Row) -> Option<Row> {
+        let mut sum = *self;
+        for (a, b) in sum.coefficients.iter_mut().zip(other.coefficients) {
+            *a = a.checked_add(times.checked_mul(b)?)?;
+        }
+        sum.constant = sum
+            .constant
+            .checked_add(times.checked_mul(other.constant)?)?;
+        Some(sum)
+    }
+
+    /// The row with the row of a value put in for each variable, unless a number is too large.
+    pub fn through(&self, values: &[Row]) -> Option<Row> {
+        self.terms()
+            .try_fold(Row::constant(self.constant), |sum, (variable, times)| {
+                sum.plus_checked(times, &values[variable])
+            })
     }
 
     /// A row that holds exactly where this one fails: minus the row, minus 1.

@@ -1,6 +1,6 @@
 //! Literals and lemmas in a text.
-use super::fault::{alternatives, quoted, Fault};
-use super::lexer::{Cursor, Kind};
+use super::fault::{alternatives, Fault};
+use super::lexer::Cursor;
 use super::sums::variable;
 use super::writer;
 use crate::show::fault::thousands;
@@ -9,16 +9,10 @@ use crate::show::names::Names;
 
 /// The number of a predicate that is expected.
 fn predicate(cursor: &mut Cursor, names: &Names) -> Result<usize, Fault> {
-    let known = match names.predicates.as_slice() {
+    let known = names.predicates.as_slice();
+    cursor.one_of(known, "predicate", || match known {
         [] => "a predicate, and none is declared above".to_string(),
-        all => format!("one of {}", all.join(", ")),
-    };
-    let column = cursor.column();
-    let name = cursor.name(&known)?;
-    let found = names.predicates.iter().position(|known| known == name);
-    found.ok_or_else(|| {
-        let message = format!("{} is no predicate; expected {known}", quoted(name));
-        cursor.fault(column, message)
+        _ => format!("one of {}", known.join(", ")),
     })
 }
 
@@ -53,16 +47,12 @@ fn source(cursor: &mut Cursor, names: &Names) -> Result<Source, Fault> {
     if cursor.take("start") {
         return Ok(Source::Start);
     }
-    let mut known = vec!["`start`".to_string()];
-    known.extend_from_slice(&names.actions);
-    let known = alternatives(&known);
-    let column = cursor.column();
-    let name = cursor.name(&known)?;
-    let found = names.actions.iter().position(|action| action == name);
-    found.map(Source::Action).ok_or_else(|| {
-        let message = format!("{} is no action; expected {known}", quoted(name));
-        cursor.fault(column, message)
-    })
+    let action = cursor.one_of(&names.actions, "action", || {
+        let mut known = vec!["`start`".to_string()];
+        known.extend_from_slice(&names.actions);
+        alternatives(&known)
+    })?;
+    Ok(Source::Action(action))
 }
 
 fn goal(cursor: &mut Cursor, names: &Names) -> Result<Goal, Fault> {
@@ -135,14 +125,12 @@ impl Multipliers<'_> {
         self.premises.each().count()
     }
 
-    /// What may be multiplied here.
-    fn known(&self) -> String {
-        let mut known = vec!["a multiplier".to_string()];
+    /// What is expected: this, or one of the rows that there are.
+    fn known(&self, before: &[&str]) -> String {
+        let mut known: Vec<String> = before.iter().map(|text| text.to_string()).collect();
         known.extend((self.goals() == 1).then(|| "`goal`".to_string()));
-        known.extend(self.premises.each().map(|(p, holds)| {
-            let one = Literals::default().with(p, holds);
-            format!("`{}`", writer::literals(one, self.names))
-        }));
+        let each = self.premises.each();
+        known.extend(each.map(|(p, holds)| format!("`{}`", writer::literal(p, holds, self.names))));
         known.extend(match self.rows {
             0 => None,
             1 => Some("`row 0`".to_string()),
@@ -151,28 +139,24 @@ impl Multipliers<'_> {
         alternatives(&known)
     }
 
-    /// The place of the row that is named next.
-    fn place(&self, cursor: &mut Cursor) -> Result<usize, Fault> {
-        let column = cursor.column();
+    /// The place of the row that is named next; or else one, or this, is expected.
+    fn place(&self, cursor: &mut Cursor, or: &[&str]) -> Result<usize, Fault> {
         if self.goals() == 1 && cursor.take("goal") {
             return Ok(0);
         }
         if cursor.take("row") {
             return self.row(cursor);
         }
-        let named = cursor.is("not") || cursor.next().is_some_and(|token| token.kind == Kind::Name);
-        if !named {
-            return Err(cursor.expected(&self.known()));
-        }
-        let (p, holds) = literal(cursor, self.names)?;
-        let place = self
-            .premises
-            .each()
-            .position(|premise| premise == (p, holds));
+        let column = cursor.column();
+        let holds = !cursor.take("not");
+        let name = cursor.name();
+        let name = name.ok_or_else(|| cursor.expected(&self.known(or)))?;
+        let given = |(p, found): (usize, bool)| found == holds && self.names.predicates[p] == name;
+        let place = self.premises.each().position(given);
         place.map(|place| self.goals() + place).ok_or_else(|| {
-            let one = Literals::default().with(p, holds);
-            let (one, known) = (writer::literals(one, self.names), self.known());
-            cursor.fault(column, format!("`{one}` is not given; expected {known}"))
+            let (not, known) = (if holds { "" } else { "not " }, self.known(&[]));
+            let message = format!("`{not}{name}` is not given; expected {known}");
+            cursor.fault(column, message)
         })
     }
 
@@ -201,22 +185,38 @@ impl Multipliers<'_> {
         ))
     }
 
-    /// A multiplier, if it is not 1, and a row.
-    fn item(&mut self, cursor: &mut Cursor) -> Result<(), Fault> {
+    /// A multiplier, if it is not 1, and a row; or else this is expected.
+    fn item(&mut self, cursor: &mut Cursor, or: &[&str]) -> Result<(), Fault> {
         let column = cursor.column();
-        let times = cursor.number().unwrap_or(1);
+        let written = cursor.number();
+        let times = written.unwrap_or(1);
         if times > MULTIPLIER {
             let (times, most) = (thousands(times), thousands(MULTIPLIER));
             let message = format!("multiplier {times}, allowed are 0 to {most}");
             return Err(cursor.fault(column, message));
         }
         let column = cursor.column();
-        let place = self.place(cursor)?;
+        let place = self.place(cursor, if written.is_some() { &[] } else { or })?;
         if self.found[place].is_some() {
             return Err(cursor.fault(column, "this row is named twice"));
         }
         self.found[place] = Some(times);
         Ok(())
+    }
+
+    /// The items with commas between them, to the end of the line.
+    fn items(&mut self, cursor: &mut Cursor) -> Result<(), Fault> {
+        if cursor.take("nothing") {
+            return cursor.end("");
+        }
+        if self.found.is_empty() {
+            return Err(cursor.expected("`nothing`, for this lemma has no rows"));
+        }
+        self.item(cursor, &["`nothing`", "a multiplier"])?;
+        while cursor.take(",") {
+            self.item(cursor, &["a multiplier"])?;
+        }
+        cursor.end("`,` or ")
     }
 }
 
@@ -268,15 +268,7 @@ fn multipliers(
         found: Vec::new(),
     };
     read.found = vec![None; read.goals() + read.premises() + rows];
-    if cursor.take("nothing") {
-        cursor.end("")?;
-    } else {
-        read.item(cursor)?;
-        while cursor.take(",") {
-            read.item(cursor)?;
-        }
-        cursor.end("`,` or ")?;
-    }
+    read.items(cursor)?;
     Ok(read
         .found
         .into_iter()

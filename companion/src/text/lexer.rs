@@ -6,29 +6,8 @@ pub const NAME: usize = 32;
 /// The most digits of a number, zeros in front not counted. With it no sum of a text leaves 64 bits.
 const DIGITS: usize = 9;
 
-const KEYWORDS: [&str; 21] = [
-    "action",
-    "always",
-    "and",
-    "by",
-    "forbid",
-    "given",
-    "goal",
-    "high",
-    "keeps",
-    "lemma",
-    "low",
-    "makes",
-    "never",
-    "not",
-    "nothing",
-    "predicate",
-    "row",
-    "start",
-    "to",
-    "variable",
-    "when",
-];
+/// As docs/TEXT.md lists them.
+const KEYWORDS: &str = "action always and by forbid given goal high keeps lemma low makes never not nothing predicate row start to variable when";
 const SIGNS: [&str; 11] = [">=", "<=", ":=", ">", "<", "=", ":", ",", "+", "-", "*"];
 
 #[derive(Clone, Copy, Debug, PartialEq, Eq)]
@@ -66,7 +45,7 @@ fn kind(text: &str) -> Result<Kind, String> {
     if SIGNS.contains(&text) {
         return Ok(Kind::Sign);
     }
-    if KEYWORDS.contains(&text) {
+    if KEYWORDS.split(' ').any(|keyword| keyword == text) {
         return Ok(Kind::Keyword);
     }
     if text.bytes().all(|byte| byte.is_ascii_digit()) {
@@ -168,6 +147,17 @@ impl<'a> Cursor<'a> {
         there
     }
 
+    /// Takes a plus or a minus, if there is one, as 1 or -1.
+    pub fn plus_or_minus(&mut self) -> i64 {
+        match self.take("-") {
+            true => -1,
+            false => {
+                self.take("+");
+                1
+            }
+        }
+    }
+
     /// Takes this sign or keyword, which is due.
     pub fn due(&mut self, text: &str) -> Result<(), Fault> {
         match self.take(text) {
@@ -176,19 +166,28 @@ impl<'a> Cursor<'a> {
         }
     }
 
-    /// Takes a name.
-    pub fn name(&mut self, what: &str) -> Result<&'a str, Fault> {
-        match self.next() {
-            Some(Token {
-                kind: Kind::Name,
-                text,
-                ..
-            }) => {
-                self.skip();
-                Ok(text)
-            }
-            _ => Err(self.expected(what)),
-        }
+    /// Takes a name if there is one.
+    pub fn name(&mut self) -> Option<&'a str> {
+        let token = self.next().filter(|token| token.kind == Kind::Name)?;
+        self.skip();
+        Some(token.text)
+    }
+
+    /// Takes one of these names, and gives its place; or else this is expected.
+    pub fn one_of(
+        &mut self,
+        names: &[String],
+        what: &str,
+        expected: impl Fn() -> String,
+    ) -> Result<usize, Fault> {
+        let column = self.column();
+        let name = self.name();
+        let name = name.ok_or_else(|| self.expected(&expected()))?;
+        let found = names.iter().position(|known| known == name);
+        found.ok_or_else(|| {
+            let message = format!("`{name}` is no {what}; expected {}", expected());
+            self.fault(column, message)
+        })
     }
 
     /// Takes a number if there is one.
@@ -230,5 +229,26 @@ impl<'a> Cursor<'a> {
             Some(token) => format!("found {}", quoted(token.text)),
         };
         self.fault(self.column(), format!("{found}; expected {what}"))
+    }
+}
+
+#[cfg(test)]
+mod tests {
+    use super::*;
+
+    #[test]
+    fn the_document_lists_the_keywords() {
+        let document = include_str!("../../../docs/TEXT.md");
+        assert!(document.contains(&format!("`{KEYWORDS}`")));
+    }
+
+    #[test]
+    fn columns_count_characters() {
+        let cursor = Cursor::new(1, "\tlevel:=  2*x# ü").unwrap();
+        let found: Vec<_> = cursor.tokens.iter().map(|t| (t.text, t.column)).collect();
+        let expected = [("level", 2), (":=", 7), ("2", 11), ("*", 12), ("x", 13)];
+        assert_eq!(found, expected);
+        let fault = Cursor::new(7, "x ≥ 5").err().unwrap();
+        assert_eq!((fault.line, fault.column), (7, 3));
     }
 }

@@ -14,6 +14,8 @@ mod lemmas;
 mod lexer;
 mod reader;
 mod sums;
+#[cfg(test)]
+mod tests;
 mod writer;
 
 pub use fault::Fault;

@@ -40,7 +40,8 @@ impl Reader {
     /// A name that is not taken yet.
     fn fresh(&self, cursor: &mut Cursor) -> Result<String, Fault> {
         let column = cursor.column();
-        let name = cursor.name("a name")?;
+        let name = cursor.name();
+        let name = name.ok_or_else(|| cursor.expected("a name"))?;
         let sorts = [
             (&self.names.variables, "a variable"),
             (&self.names.predicates, "a predicate"),
@@ -55,10 +56,10 @@ impl Reader {
         }
     }
 
-    /// An end of a range, with its column.
+    /// An end of a range.
     fn range_end(&self, cursor: &mut Cursor, which: &str) -> Result<i64, Fault> {
         let column = cursor.column();
-        let sign = if cursor.take("-") { -1 } else { 1 };
+        let sign = cursor.plus_or_minus();
         let Some(number) = cursor.number() else {
             return Err(cursor.expected(&format!("a number, the {which} end")));
         };
@@ -202,27 +203,21 @@ impl Reader {
         Ok(())
     }
 
+    /// Does the line begin with a variable, or is it an assignment to what is none?
+    fn assigns(&self, cursor: &Cursor) -> bool {
+        let variable = |name: &str| self.names.variables.iter().any(|known| known == name);
+        let first = cursor.next().filter(|first| first.kind == Kind::Name);
+        let second = cursor.second().map(|second| second.text);
+        first.is_some_and(|first| second == Some(":=") || variable(first.text))
+    }
+
     /// One line.
     fn line(&mut self, cursor: &mut Cursor) -> Result<(), Fault> {
         let Some(first) = cursor.next() else {
             return Ok(());
         };
-        let named = first.kind == Kind::Name;
-        if named
-            && (cursor.second().is_some_and(|token| token.text == ":=")
-                || self.names.variables.iter().any(|name| name == first.text))
-        {
+        if self.assigns(cursor) {
             return self.assignment(cursor, first.column);
-        }
-        if named {
-            let message = format!(
-                "{} begins no line; expected {STATEMENTS}",
-                quoted(first.text)
-            );
-            return Err(cursor.fault(first.column, message));
-        }
-        if first.kind != Kind::Keyword {
-            return Err(cursor.expected(STATEMENTS));
         }
         cursor.skip();
         self.statement(cursor, first.text, first.column)?;
@@ -230,14 +225,9 @@ impl Reader {
         Ok(())
     }
 
-    /// What stands behind the keyword that a line begins with.
-    fn statement(
-        &mut self,
-        cursor: &mut Cursor,
-        keyword: &str,
-        column: usize,
-    ) -> Result<(), Fault> {
-        match keyword {
+    /// What stands behind the first token of a line.
+    fn statement(&mut self, cursor: &mut Cursor, first: &str, column: usize) -> Result<(), Fault> {
+        match first {
             "variable" => self.variable(cursor, column),
             "start" => {
                 let rows = self.rows(cursor, "start row", self.show.logic.start.len())?;
@@ -249,10 +239,10 @@ impl Reader {
             "when" => self.when(cursor, column),
             "forbid" => self.forbid(cursor, column),
             "lemma" => self.lemma(cursor, column),
-            other => Err(cursor.fault(
-                column,
-                format!("the keyword `{other}` begins no line; expected {STATEMENTS}"),
-            )),
+            other => {
+                let message = format!("{} begins no line; expected {STATEMENTS}", quoted(other));
+                Err(cursor.fault(column, message))
+            }
         }
     }
 

@@ -1,16 +1,18 @@
 //! Sums and rows in a text.
-use super::fault::{alternatives, quoted, Fault};
+use super::fault::{alternatives, Fault};
 use super::lexer::{Cursor, Kind};
 use crate::show::fault::thousands;
 use crate::show::model::{COEFFICIENT, CONSTANT};
 use crate::show::rows::{Row, VARIABLES};
 
-/// A sum, with the columns of each variable's last term and of the last number: there it is at fault, if it is.
+/// A sum, with the columns at which it is at fault, if it is.
 #[derive(Clone, Copy)]
 struct Sum {
     row: Row,
+    /// Of each variable's last term, and of the last number, where there are such.
     terms: [usize; VARIABLES],
-    number: usize,
+    number: Option<usize>,
+    begin: usize,
 }
 
 /// How many rows a comparison may be.
@@ -23,18 +25,9 @@ pub enum Rows {
 
 /// The number of a variable that is expected.
 pub fn variable(cursor: &mut Cursor, variables: &[String]) -> Result<usize, Fault> {
-    let known = match variables {
+    cursor.one_of(variables, "variable", || match variables {
         [] => "a variable, and none is declared above".to_string(),
         _ => format!("one of {}", variables.join(", ")),
-    };
-    let column = cursor.column();
-    let name = cursor.name(&known)?;
-    let found = variables.iter().position(|variable| variable == name);
-    found.ok_or_else(|| {
-        cursor.fault(
-            column,
-            format!("{} is no variable; expected {known}", quoted(name)),
-        )
     })
 }
 
@@ -43,7 +36,8 @@ impl Sum {
         Sum {
             row: Row::default(),
             terms: [column; VARIABLES],
-            number: column,
+            number: None,
+            begin: column,
         }
     }
 
@@ -64,7 +58,7 @@ impl Sum {
             return Err(cursor.expected(&alternatives(&due)));
         };
         self.row.constant += sign * number;
-        self.number = column;
+        self.number = Some(column);
         Ok(())
     }
 
@@ -72,10 +66,7 @@ impl Sum {
     fn read(cursor: &mut Cursor, variables: &[String]) -> Result<Sum, Fault> {
         let mut sum = Sum::new(cursor.column());
         loop {
-            let sign = if cursor.take("-") { -1 } else { 1 };
-            if sign == 1 {
-                cursor.take("+");
-            }
+            let sign = cursor.plus_or_minus();
             sum.term(sign, cursor, variables)?;
             if !cursor.is("+") && !cursor.is("-") {
                 return Ok(sum);
@@ -90,7 +81,7 @@ impl Sum {
         for (v, _) in other.row.terms() {
             sum.terms[v] = other.terms[v];
         }
-        sum.number = other.number;
+        sum.number = other.number.or(self.number);
         sum
     }
 
@@ -109,7 +100,7 @@ impl Sum {
     fn row(&self, cursor: &Cursor) -> Result<Row, Fault> {
         let outside = |what: &str, number: i64, limit: i64, column: usize| {
             let (number, limit) = (thousands(number), thousands(limit));
-            let message = format!("{what} {number}, allowed are -{limit} to {limit}");
+            let message = format!("{what} {number} in the row, allowed are -{limit} to {limit}");
             Err(cursor.fault(column, message))
         };
         let large = |&(_, c): &(usize, i64)| c.abs() > COEFFICIENT;
@@ -117,7 +108,9 @@ impl Sum {
             return outside("coefficient", c, COEFFICIENT, self.terms[v]);
         }
         match self.row.constant {
-            c if c.abs() > CONSTANT => outside("constant", c, CONSTANT, self.number),
+            c if c.abs() > CONSTANT => {
+                outside("constant", c, CONSTANT, self.number.unwrap_or(self.begin))
+            }
             _ => Ok(self.row),
         }
     }

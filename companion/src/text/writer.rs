@@ -81,7 +81,8 @@ fn comparisons(rows: &[Row], names: &Names) -> Vec<String> {
     written
 }
 
-fn literal(predicate: usize, holds: bool, names: &Names) -> String {
+/// "lit", "not house_up".
+pub fn literal(predicate: usize, holds: bool, names: &Names) -> String {
     let not = if holds { "" } else { "not " };
     format!("{not}{}", names.predicates[predicate])
 }

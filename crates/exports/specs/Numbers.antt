@@ -9,6 +9,8 @@
 -- notJudged, showOf — a show's bytes: 1 too long, 2 odd bytes, 3 the words list is too short, 4 Judge's answer with the words of logic and lemmas
 -- findingsOf  — Findings: 1 refused, 2 listed with their number
 -- successorOf — the view: 1 none, 2 refused, 3 a node
+-- version     — the library's version: major times 1,000,000, minor times 1,000, and patch
+use Prim.Native.Nat.{ℕ, _+_, _*_}
 use mathlib.Core.Bool.{cond}
 use lib.IntN.{pos}
 use Rattle.words.specs.Refusals.{number, value}
@@ -94,3 +96,7 @@ abbrev pub successorOf : Viewed → BnvSuccessor
 successorOf (Node n) = record { answer = 3; node = n; refusal = 0; value = 0 }
 successorOf None = record { answer = 1; node = 0; refusal = 0; value = 0 }
 successorOf (NotViewed r) = record { answer = 2; node = 0; refusal = number r; value = value r }
+
+-- 0.8.0
+abbrev pub version : ℕ
+version = 0 * 1000000 + 8 * 1000 + 0

@@ -18,7 +18,7 @@ ghost use Rattle.judge.specs.declared.Judged.the-variants.{Safe, Refused};
 ghost use Rattle.findings.specs.Calls.{listing};
 ghost use Rattle.view.specs.Views.{viewed};
 ghost use Rattle.show.specs.Show.{show, wordsLeft, SafeShow};
-ghost use Rattle.exports.specs.Numbers.{checkOf, partOf, stepOf, askOf, judgeOf, notJudged, showOf, findingsOf, successorOf};
+ghost use Rattle.exports.specs.Numbers.{checkOf, partOf, stepOf, askOf, judgeOf, notJudged, showOf, findingsOf, successorOf, version};
 use ask::Asked;
 use findings::Listed;
 use judge::Judged;
@@ -28,6 +28,17 @@ use runs::Stepped;
 use show::Shown;
 use view::Viewed;
 use words::Refusal;
+
+// Major times 1,000,000, minor times 1,000, and patch.
+pub const BNV_VERSION_NUMBER: u32 = 8000;
+
+// The version of the library, for a caller to compare with that of its header.
+#[no_mangle]
+pub extern "C" fn bnv_version() -> u32
+    ensures { λ r. ⌜ r ≡ version ⌝ }
+{
+    BNV_VERSION_NUMBER
+}
 
 // Answers are numbered from 1: a record of zeros is no answer, and permits nothing.
 pub const BNV_GOOD: u32 = 1;

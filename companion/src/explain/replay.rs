@@ -1,0 +1,118 @@
+//! Presses by the proved Step, from a start state that the companion finds: does a finding really happen?
+use super::hunt::{self, forbidden, Wrong};
+use super::walk::{Reach, Walk};
+use super::{shortened, Told, OWN};
+use crate::verdict::{mismatch, Step};
+use bulanevior::{Finding, Step as Pressed};
+
+/// What happens to a start state on a path to a finding, and whether something really goes wrong.
+pub fn lines(told: &Told, finding: Finding, path: &[Step]) -> Result<(Vec<String>, bool), String> {
+    let logic = &told.show.logic;
+    let reach = Walk::new(logic, finding, path).map_or(Reach::Unknown, |walk| walk.reach(logic));
+    let stage = match reach {
+        Reach::Whole(start) => {
+            let presses: Vec<usize> = path.iter().map(|step| step.action).collect();
+            let wrong = match finding {
+                Finding::MayForbid { combination, .. } => Wrong::Forbidden(combination),
+                Finding::MayRunOff { action, .. } => Wrong::RunsOff(action),
+            };
+            return Ok((replayed(told, &start, &presses, wrong)?, true));
+        }
+        Reach::Until(stage) => Some(stage),
+        Reach::Unknown => None,
+    };
+    let mut lines = vec![OWN.to_string()];
+    lines.push(format!("  {}", unwalked(told, finding, path, stage)));
+    let fault = hunt::hunt(logic);
+    match &fault {
+        Some(fault) => {
+            lines.push("  but other presses go wrong".to_string());
+            lines.push(String::new());
+            lines.extend(replayed(told, &fault.start, &fault.presses, fault.wrong)?);
+        }
+        None => {
+            let none =
+                "no presses were found that really go wrong, which is no proof that there are none";
+            lines.push(format!("  {none}"));
+        }
+    }
+    Ok((lines, fault.is_some()))
+}
+
+/// Why no start state walks the path to the finding.
+fn unwalked(told: &Told, finding: Finding, path: &[Step], stage: Option<usize>) -> String {
+    let there = match finding {
+        Finding::MayForbid { .. } => "meets the combination there",
+        Finding::MayRunOff { .. } => "runs off there",
+    };
+    match stage {
+        None => format!("no start state was found that walks this way and {there}"),
+        Some(0) => "no state meets the start rows".to_string(),
+        Some(k) if k <= path.len() => {
+            let action = told.action(path[k - 1].action);
+            format!("no start state walks this way, it is one in the graph only: none takes press {k}, {action}")
+        }
+        Some(_) if path.is_empty() => format!("no start state {there}"),
+        Some(_) => format!("start states walk this way, but none of them {there}"),
+    }
+}
+
+/// One press: the line that tells it, and what Step answers.
+fn pressed(
+    told: &Told,
+    number: usize,
+    action: usize,
+    state: &mut [i32],
+) -> Result<(String, Pressed), String> {
+    let answer = bulanevior::step(&told.judged.logic, action, state).map_err(mismatch)?;
+    let does = match answer {
+        Pressed::Moved => format!("moves to {}", told.state(state)),
+        Pressed::NotEnabled(near) => format!("is not enabled: {near}"),
+        Pressed::RunsOff(v) => format!("runs {} off its range", told.names.variables[v]),
+    };
+    let line = format!("  press {number}: {} {does}", told.action(action));
+    Ok((line, answer))
+}
+
+/// The presses from a start state, and what goes wrong behind them.
+fn replayed(
+    told: &Told,
+    start: &[i64],
+    presses: &[usize],
+    wrong: Wrong,
+) -> Result<Vec<String>, String> {
+    let mut state: Vec<i32> = start.iter().map(|&x| x as i32).collect();
+    let mut lines = vec![
+        "replayed by the proved Step, from a start state that the companion found:".to_string(),
+    ];
+    lines.push(format!("  {}", told.state(&state)));
+    let mut moves = Vec::new();
+    for (number, &action) in (1..).zip(presses) {
+        let (line, answer) = pressed(told, number, action, &mut state)?;
+        if answer != Pressed::Moved {
+            return Err(mismatch(format!("the companion's walk:{line}")));
+        }
+        moves.push(vec![line]);
+    }
+    lines.extend(shortened(moves));
+    lines.push(ended(told, presses.len(), &mut state, wrong)?);
+    lines.push("  it really happens".to_string());
+    Ok(lines)
+}
+
+/// What goes wrong at the end: an action runs off, or the state is forbidden, which is read off its values.
+fn ended(told: &Told, presses: usize, state: &mut [i32], wrong: Wrong) -> Result<String, String> {
+    let values: Vec<i64> = state.iter().map(|&x| x.into()).collect();
+    match wrong {
+        Wrong::RunsOff(action) => match pressed(told, presses + 1, action, state)? {
+            (line, Pressed::RunsOff(_)) => Ok(line),
+            (line, _) => Err(mismatch(format!("the companion's walk:{line}"))),
+        },
+        Wrong::Forbidden(_) => match forbidden(&told.show.logic, &values) {
+            Some(k) => Ok(format!("  this state meets forbidden combination {k}")),
+            None => Err(mismatch(
+                "the companion's walk ends in a state that is allowed",
+            )),
+        },
+    }
+}

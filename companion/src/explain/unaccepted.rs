@@ -1,0 +1,66 @@
+//! The lemmas that are not accepted, and by how much.
+use super::missing::accepted;
+use super::{Told, OWN};
+use crate::show::fault::thousands;
+use crate::show::model::Lemma;
+use crate::solve::{self, Found, Refutation};
+use crate::text;
+use crate::verdict::mismatch;
+use bulanevior::{ask, Ask};
+
+/// How many lemmas are accepted, and each that is not.
+pub fn lines(told: &Told) -> Result<Vec<String>, String> {
+    let judged = told.judged;
+    let accepted = |k| ask(&judged.logic, &judged.lemmas, k).map_err(mismatch);
+    let mut others = Vec::new();
+    for (number, lemma) in told.show.lemmas.iter().enumerate() {
+        if accepted(number)? == Ask::NotAccepted {
+            others.push((number, lemma));
+        }
+    }
+    let all = told.show.lemmas.len();
+    let mut lines = vec![format!("lemmas: {} of {all} accepted", all - others.len())];
+    if !others.is_empty() {
+        lines.push(format!("not accepted, and by how much, {OWN}"));
+    }
+    for (number, lemma) in others {
+        lines.extend(told_of(told, number, lemma)?);
+    }
+    Ok(lines)
+}
+
+fn told_of(told: &Told, number: usize, lemma: &Lemma) -> Result<Vec<String>, String> {
+    let largest = lemma.largest(&told.show.logic);
+    if largest < 0 {
+        let what = format!("the sum of lemma {number} stays below 0, at {largest}");
+        return Err(mismatch(what));
+    }
+    let reaches = thousands(largest);
+    Ok(vec![
+        format!("  number {number}: {}", text::lemma(lemma, told.names)),
+        format!("    its sum reaches {reaches}, and has to stay below 0"),
+        format!("    {}", mended(told, lemma)?),
+    ])
+}
+
+/// Multipliers that show it, or a state that makes it false.
+fn mended(told: &Told, lemma: &Lemma) -> Result<String, String> {
+    let logic = &told.show.logic;
+    let rows = logic.rows(lemma.source, lemma.goal, lemma.premises);
+    Ok(match solve::refute(&rows, &logic.ranges) {
+        Refutation::Multipliers(multipliers) => {
+            let better = Lemma {
+                multipliers,
+                ..lemma.clone()
+            };
+            accepted(told, &better)?;
+            format!("Ask accepts: {}", text::lemma(&better, told.names))
+        }
+        Refutation::Unknown => "whether other multipliers show it was not found out".to_string(),
+        Refutation::Feasible => match solve::state(&rows, &logic.ranges) {
+            Found::State(state) => format!("it is false: at {}", told.state(&state)),
+            Found::None => "it is true, but no multipliers show it".to_string(),
+            Found::Unknown => "no multipliers show it".to_string(),
+        },
+    })
+}
