@@ -1,11 +1,13 @@
 //! Logics by dice: nothing panics, every lemma found is accepted, and the companion's own exploration comes to what the proved call says.
 use super::checker::Checker;
 use super::explore::{everything, explore, Listed};
-use super::finder;
+use super::{finder, run};
+use crate::input;
+use crate::output::Status;
 use crate::show::model::*;
 use crate::show::rows::{Range, Row};
 use crate::solve::dice::Dice;
-use bulanevior::*;
+use bulanevior::{judge, Verdict, GRAPH_WORDS, MOST_NODES, PATH_WORDS};
 
 /// How large logics are, and their numbers.
 #[derive(Clone, Copy)]
@@ -98,17 +100,22 @@ fn both(logic: &Logic, lemmas: &[Lemma]) -> ((usize, bool), (usize, bool)) {
     )
 }
 
-/// How many of some logics are safe.
-fn tried(size: Size, seed: u64, count: usize) -> usize {
+/// How many of some logics are safe. The command's status is by the same verdict, and where it is none, it says what is lacking.
+fn tried(seed: u64, count: usize, logic: impl Fn(&mut Dice) -> Logic) -> usize {
     let mut dice = Dice(seed);
     let mut safe = 0;
     for _ in 0..count {
-        let logic = size.logic(&mut dice);
+        let logic = logic(&mut dice);
         let mut checker = Checker::new(&logic);
         let lemmas = finder::find(&logic, &mut checker).unwrap();
         let (proved, own) = both(&logic, &lemmas);
         assert_eq!(proved, own, "{logic:?}");
         safe += usize::from(proved.1);
+        let lemmas = Vec::new();
+        let input = input::of(crate::show::model::Show { logic, lemmas }.bytes());
+        let said = run(&input.unwrap_or_else(|_| panic!("no show"))).unwrap();
+        assert_eq!(said.status == Status::Good, proved.1);
+        assert_eq!(said.behind.len() > 1, !proved.1);
     }
     safe
 }
@@ -124,7 +131,7 @@ fn small_logics() {
         coefficient: 2,
         constant: 4,
     };
-    let safe = tried(size, 1, 2_000);
+    let safe = tried(1, 2_000, |dice| size.logic(dice));
     assert!(safe > 100 && safe < 1_900, "{safe}");
 }
 
@@ -139,19 +146,56 @@ fn large_logics() {
         coefficient: 1_000,
         constant: 1_000_000,
     };
-    tried(size, 2, 200);
+    tried(2, 200, |dice| size.logic(dice));
+}
+
+/// Faders and switches that are all out at the start, actions on one of them each, with predicates in their guards, and pairs that exclude each
+/// other: graphs of many nodes.
+fn desk(dice: &mut Dice) -> Logic {
+    let variables = dice.roll(2, 8) as usize;
+    let mut pick = |count: usize| dice.roll(0, count as i64 - 1) as usize;
+    let highs: Vec<i64> = (0..variables).map(|_| [1, 1, 10, 1000][pick(4)]).collect();
+    let ranges = highs.iter().map(|&high| Range { low: 0, high });
+    let out = |v: usize| Row::default().plus(-1, &Row::variable(v));
+    let mut logic = Logic {
+        ranges: ranges.collect(),
+        start: (0..variables).map(out).collect(),
+        ..Logic::default()
+    };
+    for _ in 0..=pick(PREDICATES) {
+        let v = pick(variables);
+        let level = Row::constant(-1 - pick(highs[v] as usize) as i64);
+        logic.predicates.push(level.plus(1, &Row::variable(v)));
+    }
+    let predicates = logic.predicates.len();
+    for _ in 0..2 + pick(15) {
+        let v = pick(variables);
+        let (step, all) = ([1, -1, 0][pick(3)], Row::variable(v));
+        let mut guards: Vec<Row> = (0..pick(3))
+            .map(|_| logic.literal(pick(predicates), pick(3) == 0))
+            .collect();
+        guards.push(match step {
+            1 => Row::constant(highs[v] - 1).plus(-1, &all),
+            _ => Row::constant(step).plus(1, &all),
+        });
+        let set = match step {
+            0 => Row::constant(pick(highs[v] as usize + 1) as i64),
+            _ => Row::constant(step).plus(1, &all),
+        };
+        let sets = vec![(v, set)];
+        logic.actions.push(Action { guards, sets });
+    }
+    for _ in 0..=pick(ROWS) {
+        let one = Literals::default().with(pick(predicates), true);
+        let other = pick(predicates);
+        let pair = one.without(other).with(other, true);
+        logic.forbidden.push(pair);
+    }
+    logic
 }
 
 #[test]
-fn logics_with_many_nodes() {
-    let size = Size {
-        variables: 8,
-        predicates: 14,
-        actions: 16,
-        rows: 2,
-        range: 100,
-        coefficient: 1,
-        constant: 60,
-    };
-    tried(size, 3, 100);
+fn desks() {
+    let safe = tried(3, 300, desk);
+    assert!(safe > 10 && safe < 290, "{safe}");
 }
