@@ -180,14 +180,14 @@ impl Finder<'_> {
 
     /// What guards alone show of predicates that their actions do not touch: with these lemmas others can be left out.
     fn from_guards(&mut self, followed: Literals) -> Vec<Lemma> {
+        let (logic, none) = (self.logic, Literals::default());
         self.book.begin();
-        for action in (0..self.logic.actions.len()).map(Source::Action) {
-            let kept = followed
-                .each()
-                .filter(|&(p, _)| !touches(self.logic, action, p));
-            for (p, _) in kept {
-                self.book.shows(action, Goal::Holds(p), Literals::default());
-                self.book.shows(action, Goal::Fails(p), Literals::default());
+        for action in (0..logic.actions.len()).map(Source::Action) {
+            for p in (0..logic.predicates.len()).filter(|&p| !touches(logic, action, p)) {
+                let mut ask =
+                    |wanted: u32, goal| wanted >> p & 1 == 1 && self.book.shows(action, goal, none);
+                ask(followed.holds, Goal::Holds(p));
+                ask(followed.fails, Goal::Fails(p));
             }
         }
         self.book.used()

@@ -30,14 +30,14 @@ impl Pruner<'_> {
         Ok(!explored.over && explored.faults.is_subset(&self.faults))
     }
 
-    /// What is left of a list: lemmas with many premises, which apply at few nodes, are the first to go; in halves,
-    /// quarters and so on, and then one by one.
+    /// What is left of a list: lemmas with many premises, which apply at few nodes, are the first to go; all at once, then in halves, quarters and
+    /// so on, and then one by one. What cannot go from a list cannot go from a shorter one.
     pub fn pruned(&mut self, mut lemmas: Vec<Lemma>) -> Result<Vec<Lemma>, String> {
         lemmas.sort_by_key(|lemma| std::cmp::Reverse(lemma.premises.each().count()));
         let mut size = lemmas.len();
-        while size > 1 {
-            size = size.div_ceil(2);
+        while size > 0 {
             lemmas = self.without(lemmas, size)?;
+            size = if size > 1 { size.div_ceil(2) } else { 0 };
         }
         Ok(lemmas)
     }

@@ -59,6 +59,15 @@ fn safe_shows() {
     }
 }
 
+/// What needs no lemma gets none: nothing is forbidden and nothing set.
+#[test]
+fn nothing_to_show() {
+    let text = "variable level 0 to 1000\nstart level = 5\npredicate up: level >= 1\naction look\n    when level >= 3\n";
+    let (text, behind, status) = said(text.as_bytes());
+    assert_eq!((behind.len(), status), (0, Status::Good));
+    assert!(!text.contains("lemma"), "{text}");
+}
+
 /// House from a text without lemmas to a text with them, which reads back and is safe.
 #[test]
 fn house_as_text() {
