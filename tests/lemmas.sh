@@ -1,6 +1,6 @@
 #!/bin/bash
 # The command lemmas (companion/): for each show that can be safe, the lemmas that it finds for the logic alone, as words, are judged SAFE by JUDGE, and are no more than the shortest
-# list that is stored; House from its text without lemmas too. For the others it says what is lacking, and ends with the status of a finding. `tests/lemmas.sh PROGRAM [JUDGE]`: the
+# list that is stored; from its text without lemmas too. For the others it says what is lacking, and ends with the status of a finding. `tests/lemmas.sh PROGRAM [JUDGE]`: the
 # companion, and the operator's program, target/bin/operator if it is not given. It prints `ok` at the end.
 set -eu
 [ $# -eq 1 ] || [ $# -eq 2 ] || { echo "usage: tests/lemmas.sh PROGRAM [JUDGE]"; exit 2; }
@@ -53,12 +53,14 @@ for name in fade house rig8 bakery chase master blackout incident_mended differe
     # Whatever lemmas it comes with, and as a text, it comes to the same.
     "$program" lemmas "$room/first" | cmp - "$room/first" || fail "$name: other lemmas for its own text"
     "$program" lemmas <"shows/$name.words" | cmp - "$room/first" || fail "$name: other lemmas on standard input"
+    # From its text, with its names and without its lemmas.
+    grep -v '^lemma ' "shows/$name.text" >"$room/logic"
+    safe "$room/logic" "$most"
+    same_logic "shows/$name.words" "$room/words"
 done
 for name in chase blackout; do
     safe "shows/${name}_unshown.words" "$(count "shows/$name.words")"
 done
-grep -v '^lemma' shows/house.text >"$room/house"
-safe "$room/house" 19
 
 # ---- what is lacking
 
