@@ -122,7 +122,7 @@ A show is words or text, to every command.
 Status: 0  safe; of text and words, which do not judge, that they are whole
         1  findings
         2  trouble: no answer, and the reason on standard error
-        3  the show is refused, cut or too long; of draw, text and words nothing is printed then, and the reason is on standard error"
+        3  the show is refused, cut or too long; of draw, text, words and lemmas nothing is printed then, and the reason is on standard error"
     )
 }
 

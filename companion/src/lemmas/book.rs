@@ -1,18 +1,26 @@
 //! The lemmas found so far. One is looked for where it is first wanted, with all that is known there, and then freed of the premises that it
 //! can do without, so that it applies at as many nodes as possible.
-use super::explore::Shown;
+use super::explore::{place, Shown, PLACES};
 use crate::show::model::{Goal, Lemma, Literals, Logic, Source};
 use crate::show::rows::Row;
 use crate::solve::{refute, Refutation};
-use std::collections::{BTreeSet, HashMap, HashSet};
+use std::collections::{BTreeSet, HashMap};
+
+/// What there is of a source and a goal.
+struct Page {
+    /// The predicates that can bear on the goal.
+    bearing: u32,
+    /// Its lemmas, by number.
+    lemmas: Vec<usize>,
+    /// What was found where these literals of such predicates were known.
+    found: HashMap<Literals, Option<usize>>,
+}
 
 pub struct Book<'a> {
     logic: &'a Logic,
     lemmas: Vec<Lemma>,
-    /// Those of a source and a goal, by number.
-    places: HashMap<(Source, Goal), Vec<usize>>,
-    /// Looked for in vain, with these premises.
-    lacking: HashSet<(Source, Goal, Literals)>,
+    /// By `place`.
+    pages: Vec<Option<Page>>,
     /// Can these literals all hold?
     consistent: HashMap<Literals, bool>,
     /// Those that have shown something since the last `begin`.
@@ -20,15 +28,29 @@ pub struct Book<'a> {
 }
 
 impl Shown for Book<'_> {
+    const SEEKS: bool = true;
+
     fn logic(&self) -> &Logic {
         self.logic
     }
 
     /// It is looked for if there is none yet.
     fn shows(&mut self, source: Source, goal: Goal, known: Literals) -> bool {
-        let found = self
-            .applying(source, goal, known)
-            .or_else(|| self.sought(source, goal, known));
+        let whole = goal == Goal::Never && !self.consistent(known);
+        let page = self.pages[place(source, goal)].get_or_insert_with(|| Page {
+            bearing: bearing(self.logic, source, goal),
+            lemmas: Vec::new(),
+            found: HashMap::new(),
+        });
+        let mask = if whole { u32::MAX } else { page.bearing };
+        let known = Literals {
+            holds: known.holds & mask,
+            fails: known.fails & mask,
+        };
+        let found = match page.found.get(&known) {
+            Some(&found) => found,
+            None => self.sought(source, goal, known),
+        };
         self.used.extend(found);
         found.is_some()
     }
@@ -39,8 +61,7 @@ impl<'a> Book<'a> {
         Book {
             logic,
             lemmas: Vec::new(),
-            places: HashMap::new(),
-            lacking: HashSet::new(),
+            pages: std::iter::repeat_with(|| None).take(PLACES).collect(),
             consistent: HashMap::new(),
             used: BTreeSet::new(),
         }
@@ -56,26 +77,23 @@ impl<'a> Book<'a> {
         self.used.iter().map(|&k| self.lemmas[k].clone()).collect()
     }
 
-    /// A lemma that applies where these literals are known.
-    fn applying(&self, source: Source, goal: Goal, known: Literals) -> Option<usize> {
-        let all = self.places.get(&(source, goal))?;
-        let applies = |&&k: &&usize| known.contains(self.lemmas[k].premises);
-        all.iter().find(applies).copied()
-    }
-
+    /// A lemma that applies where these literals are known: one that is there, or one that is found now.
     fn sought(&mut self, source: Source, goal: Goal, known: Literals) -> Option<usize> {
-        let bearing = self.bearing(source, goal, known);
-        if self.lacking.contains(&(source, goal, bearing)) {
-            return None;
-        }
-        let Some(lemma) = self.found(source, goal, bearing) else {
-            self.lacking.insert((source, goal, bearing));
-            return None;
+        let applies = |&&k: &&usize| known.contains(self.lemmas[k].premises);
+        let place = place(source, goal);
+        let there = self.pages[place].as_ref();
+        let there = there.and_then(|page| page.lemmas.iter().find(applies).copied());
+        let new = match there {
+            Some(_) => None,
+            None => self.found(source, goal, known),
         };
-        let number = self.lemmas.len();
-        self.lemmas.push(lemma);
-        self.places.entry((source, goal)).or_default().push(number);
-        Some(number)
+        let number = there.or(new.is_some().then_some(self.lemmas.len()));
+        if let Some(page) = &mut self.pages[place] {
+            page.found.insert(known, number);
+            page.lemmas.extend(new.as_ref().and(number));
+        }
+        self.lemmas.extend(new);
+        number
     }
 
     /// A lemma none of whose premises it can do without.
@@ -119,28 +137,6 @@ impl<'a> Book<'a> {
         (lemma.largest(self.logic) < 0).then_some(lemma)
     }
 
-    /// The literals that can bear on a goal: those that its row, or for `Never` the source's rows, are joined to by common variables. The
-    /// others bear on it only where they cannot all hold, and then the source cannot happen.
-    fn bearing(&mut self, source: Source, goal: Goal, known: Literals) -> Literals {
-        if goal == Goal::Never && !self.consistent(known) {
-            return known;
-        }
-        let (before, sets) = self.logic.source(source);
-        let before: Vec<u32> = before.iter().map(variables).collect();
-        let first = match self.logic.goal(goal) {
-            Some(row) => variables(&row.after(sets)),
-            None => before.iter().fold(0, |all, row| all | row),
-        };
-        let row = |(p, _): (usize, bool)| variables(&self.logic.predicates[p]);
-        let rows = || before.iter().copied().chain(known.each().map(row));
-        let joined = (0..self.logic.ranges.len()).fold(first, |joined, _| {
-            let touching = rows().filter(|row| row & joined != 0);
-            touching.fold(joined, |all, row| all | row)
-        });
-        let apart = known.each().filter(|&literal| row(literal) & joined == 0);
-        apart.fold(known, |all, (p, _)| all.without(p))
-    }
-
     fn consistent(&mut self, known: Literals) -> bool {
         let logic = self.logic;
         *self.consistent.entry(known).or_insert_with(|| {
@@ -154,4 +150,22 @@ impl<'a> Book<'a> {
 /// The variables of a row, variable v in bit v.
 fn variables(row: &Row) -> u32 {
     row.terms().fold(0, |all, (v, _)| all | 1 << v)
+}
+
+/// The predicates that can bear on a goal: those that its row, or for `Never` the source's rows, are joined to by common variables. Literals of
+/// others bear on it only where they cannot all hold, and then the source cannot happen.
+fn bearing(logic: &Logic, source: Source, goal: Goal) -> u32 {
+    let (before, sets) = logic.source(source);
+    let first = match logic.goal(goal) {
+        Some(row) => variables(&row.after(sets)),
+        None => before.iter().fold(0, |all, row| all | variables(row)),
+    };
+    let rows = || before.iter().chain(&logic.predicates).map(variables);
+    let joined = (0..logic.ranges.len()).fold(first, |joined, _| {
+        let touching = rows().filter(|row| row & joined != 0);
+        touching.fold(joined, |all, row| all | row)
+    });
+    let predicates = logic.predicates.iter().enumerate();
+    let bearing = predicates.filter(|(_, row)| variables(row) & joined != 0);
+    bearing.fold(0, |all, (p, _)| all | 1 << p)
 }

@@ -1,14 +1,20 @@
 //! What is lacking where something may go wrong: at which node, for which action, which goal; and a state that makes it false, if one is found.
 //! The findings are those of the proved call; the rest is worked out here.
-use super::explore::{speaks, touches};
+use super::explore::{contradicts, speaks, touches};
 use crate::show::model::{Goal, Literals, Logic, Source};
 use crate::show::names::Names;
-use crate::solve::{state, Found};
+use crate::solve::{refute, state, Found, Refutation};
 use crate::text;
 use bulanevior::*;
+use std::collections::BTreeSet;
 
 /// The most lemmas that are named.
 const NAMED: usize = 20;
+
+/// Where no state makes a lemma false: multipliers may show it or not.
+const UNFOLLOWED: &str = "it can be shown, but with all that can be shown the graph does not fit";
+const BETWEEN: &str =
+    "no state makes it false, and no multipliers show it: a further predicate may help";
 
 /// A lemma that is lacking.
 #[derive(Clone, Copy, Debug, PartialEq, Eq)]
@@ -42,15 +48,21 @@ impl Graph<'_> {
         }
     }
 
-    /// The same for the nearest source on the way to a node that touches a predicate.
-    fn touched(&self, mut node: usize, predicate: usize) -> (Source, Option<usize>) {
+    /// The nearest source that touches a predicate, this one or one on the way to its node.
+    fn touched(
+        &self,
+        mut at: (Source, Option<usize>),
+        predicate: usize,
+    ) -> (Source, Option<usize>) {
         for _ in 0..MOST_NODES {
-            match self.origin(node) {
-                (source, Some(parent)) if !touches(self.logic, source, predicate) => node = parent,
+            match at {
+                (source, Some(node)) if !touches(self.logic, source, predicate) => {
+                    at = self.origin(node)
+                }
                 found => return found,
             }
         }
-        (Source::Start, None)
+        at
     }
 
     fn lack(
@@ -68,29 +80,73 @@ impl Graph<'_> {
         }
     }
 
-    /// What keeps a combination out of a node: that a literal of it of which nothing is known is not so; where all are known, that the
-    /// node is not come to.
-    fn against(&self, node: usize, combination: usize) -> Vec<Lack> {
-        let open = |&(p, _): &(usize, bool)| !speaks(self.known(node), p);
-        let wanted = self.logic.forbidden[combination].each().filter(open);
-        let lacks = wanted.map(|(p, holds)| {
-            let goal = if holds {
-                Goal::Fails(p)
-            } else {
-                Goal::Holds(p)
-            };
-            self.lack(self.touched(node, p), goal, Some(combination))
+    /// How many nodes there are.
+    fn nodes(&self) -> usize {
+        let there = |node: &usize| header(self.list, self.logic.actions.len(), *node).is_some();
+        (0..MOST_NODES).take_while(there).count()
+    }
+
+    /// Where a combination is come to: a source, the node before it, where a literal contradicts the combination, and the one behind it.
+    fn entries(&self, combination: usize) -> Vec<(Source, Option<usize>, usize)> {
+        let bad = self.logic.forbidden[combination];
+        let (nodes, actions) = (self.nodes(), self.logic.actions.len());
+        let view = View::new(self.list, nodes, actions);
+        let out = |node: usize| contradicts(self.known(node), bad);
+        let start = (Source::Start, None, 0);
+        let edges = (0..nodes).filter(|&node| out(node)).flat_map(|node| {
+            (0..actions).filter_map(move |action| {
+                let next = view.successor(node, action).ok()??;
+                Some((Source::Action(action), Some(node), next))
+            })
         });
-        let lacks: Vec<Lack> = lacks.collect();
-        match lacks.is_empty() {
-            true => vec![self.lack(self.origin(node), Goal::Never, Some(combination))],
-            false => lacks,
+        let all = std::iter::once(start).chain(edges);
+        all.filter(|&(_, _, next)| !out(next)).collect()
+    }
+
+    /// What would keep a combination out where it is come to: that a literal of it of which nothing is known is not so; where all are known,
+    /// that it does not happen.
+    fn against(&self, combination: usize) -> Vec<Lack> {
+        let mut lacks = Vec::new();
+        for (source, node, next) in self.entries(combination) {
+            let here = self.known(next);
+            let bad = self.logic.forbidden[combination].each();
+            let open: Vec<_> = bad.filter(|&(p, _)| !speaks(here, p)).collect();
+            if open.is_empty() {
+                lacks.push(self.lack((source, node), Goal::Never, Some(combination)));
+            }
+            lacks.extend(open.into_iter().map(|(p, holds)| {
+                let goal = if holds {
+                    Goal::Fails(p)
+                } else {
+                    Goal::Holds(p)
+                };
+                self.lack(self.touched((source, node), p), goal, Some(combination))
+            }));
+        }
+        lacks
+    }
+
+    /// Can it be shown? Then it is lacking only because it is not followed.
+    fn showable(&self, lack: &Lack) -> bool {
+        let rows = self.logic.rows(lack.source, lack.goal, lack.known);
+        matches!(
+            refute(&rows, &self.logic.ranges),
+            Refutation::Multipliers(_)
+        )
+    }
+
+    /// Those that cannot be shown, if there are any.
+    fn decisive(&self, lacks: Vec<Lack>) -> Vec<Lack> {
+        let cannot = lacks.iter().filter(|lack| !self.showable(lack));
+        match cannot.copied().collect::<Vec<Lack>>() {
+            none if none.is_empty() => lacks,
+            some => some,
         }
     }
 
     fn of(&self, finding: Finding) -> Vec<Lack> {
         match finding {
-            Finding::MayForbid { node, combination } => self.against(node, combination),
+            Finding::MayForbid { combination, .. } => self.decisive(self.against(combination)),
             Finding::MayRunOff {
                 node,
                 action,
@@ -106,10 +162,23 @@ impl Graph<'_> {
         }
     }
 
+    /// The findings, of those of one combination only the first.
+    fn different(findings: &[Finding]) -> Vec<Finding> {
+        let mut seen = BTreeSet::new();
+        let first = |finding: &&Finding| match **finding {
+            Finding::MayForbid { combination, .. } => seen.insert(combination),
+            Finding::MayRunOff { .. } => true,
+        };
+        findings.iter().filter(first).copied().collect()
+    }
+
     /// The first lack of each source and goal, with the number of nodes at which it is lacking too.
     fn gathered(&self, findings: &[Finding]) -> Vec<(Lack, usize)> {
         let mut gathered: Vec<(Lack, Vec<Option<usize>>)> = Vec::new();
-        for lack in findings.iter().flat_map(|&finding| self.of(finding)) {
+        for lack in Graph::different(findings)
+            .into_iter()
+            .flat_map(|finding| self.of(finding))
+        {
             let same = |first: &Lack| (first.source, first.goal) == (lack.source, lack.goal);
             match gathered.iter_mut().find(|(first, _)| same(first)) {
                 Some((_, nodes)) if nodes.contains(&lack.node) => {}
@@ -170,10 +239,8 @@ impl Graph<'_> {
                 let after = self.after(lack, &state, names);
                 format!("false at {}{after}", values.join(", "))
             }
-            Found::None => {
-                "no state makes it false, and no multipliers show it: a further predicate may help"
-                    .to_string()
-            }
+            Found::None if self.showable(&lack) => UNFOLLOWED.to_string(),
+            Found::None => BETWEEN.to_string(),
             Found::Unknown => "no state that makes it false was found".to_string(),
         }
     }

@@ -51,4 +51,6 @@ pub fn run(input: &Input) -> Result<Said, String> {
 }
 
 #[cfg(test)]
+mod fuzz;
+#[cfg(test)]
 mod tests;

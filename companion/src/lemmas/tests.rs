@@ -59,6 +59,15 @@ fn safe_shows() {
     }
 }
 
+/// What needs no lemma gets none: nothing is forbidden and nothing set.
+#[test]
+fn nothing_to_show() {
+    let text = "variable level 0 to 1000\nstart level = 5\npredicate up: level >= 1\naction look\n    when level >= 3\n";
+    let (text, behind, status) = said(text.as_bytes());
+    assert_eq!((behind.len(), status), (0, Status::Good));
+    assert!(!text.contains("lemma"), "{text}");
+}
+
 /// House from a text without lemmas to a text with them, which reads back and is safe.
 #[test]
 fn house_as_text() {
@@ -108,11 +117,13 @@ fn what_is_lacking() {
             "bump",
             &["at node 1 (p0): a1 keeps v0 high; false at v0 996, v1 1, where v0 becomes 1001"],
         ),
-        // The macro puts both on from where all are out; the haze goes on where the front light is on.
+        // The macro puts both on, from wherever one of them is out: nodes 0, 1, 2 and 4; the house light goes on where the front light alone is: 2
+        // and 4; the haze where the front light is and it is out: 2 and 3.
         (
             "shortcut",
             &[
-                "at node 0 (not p0 and not p1 and not p2): a2 never, against p0 and p1; false at v0 0, v1 0, v2 0",
+                "at node 0 (not p0 and not p1 and not p2), and at 3 more nodes: a2 never, against p0 and p1; false at v0 0, v1 0, v2 0",
+                "at node 2 (p0 and not p1 and not p2), and at 1 more node: a0 never, against p0 and p1; false at v0 1, v1 0, v2 0",
                 "at node 2 (p0 and not p1 and not p2), and at 1 more node: a3 never, against p0 and p2; false at v0 1, v1 0, v2 0",
             ],
         ),
@@ -217,6 +228,54 @@ fn more_nodes_than_fit() {
     });
     let (lemmas, safe) = found(&logic);
     assert!(safe && lemmas.len() <= 49, "{}", lemmas.len());
+}
+
+/// The same with a lamp that goes down whatever it is at: with 2,187 nodes, what is said is of a graph that fits.
+#[test]
+fn lacking_with_more_nodes_than_fit() {
+    let mut logic = lamps(7, |v| {
+        Literals::default().with(2 * v, false).with(2 * v + 1, true)
+    });
+    logic.actions[1].guards.clear();
+    let lemmas = Vec::new();
+    let (_, behind, status) = said(&Show { logic, lemmas }.bytes());
+    assert_eq!((behind.len(), status), (4, Status::Findings));
+    assert!(
+        behind[1].contains(": a1 keeps v0 low; false at v0 0, "),
+        "{}",
+        behind[1]
+    );
+    assert!(
+        behind[1].ends_with(", where v0 becomes -5"),
+        "{}",
+        behind[1]
+    );
+    assert!(
+        behind[2].contains(": a1 makes p0, against not p0 and p1; false at v0 "),
+        "{}",
+        behind[2]
+    );
+}
+
+/// A start that may be anything: one line for each literal that would keep the combination out.
+#[test]
+fn lacking_at_the_start() {
+    let text = "variable level 0 to 1000
+variable house 0 to 1
+start level + 3 house >= 3
+predicate level_up: level >= 1
+predicate house_up: house >= 1
+forbid level_up and house_up
+";
+    let (_, behind, _) = said(text.as_bytes());
+    let against = "against level_up and house_up";
+    assert_eq!(
+        behind[1..],
+        [
+            format!("at the start: start makes not level_up, {against}; false at level 1, house 1"),
+            format!("at the start: start makes not house_up, {against}; false at level 0, house 1"),
+        ]
+    );
 }
 
 /// Predicates that nothing forbidden speaks of are not followed where there are too many.

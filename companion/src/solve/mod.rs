@@ -45,4 +45,6 @@ fn gcd(a: i128, b: i128) -> i128 {
 }
 
 #[cfg(test)]
+pub mod dice;
+#[cfg(test)]
 mod tests;

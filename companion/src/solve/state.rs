@@ -183,6 +183,19 @@ fn split(ranges: &[Range], k: usize, at: i64, up: bool) -> Vec<Vec<Range>> {
     parts
 }
 
+/// The same state with each variable in turn as low as the rows let it be: smaller numbers are easier to read.
+fn lowered(rows: &[Row], ranges: &[Range], state: Vec<i64>) -> Vec<i64> {
+    (0..ranges.len()).fold(state, |mut state, k| {
+        let fixed = state.iter().map(|&x| Range { low: x, high: x });
+        let mut line: Vec<Range> = fixed.collect();
+        line[k] = ranges[k];
+        if let Some(line) = narrowed(rows, &line) {
+            state[k] = line[k].low;
+        }
+        state
+    })
+}
+
 /// A state of the ranges at which all rows hold. The numbers of a row may be any; ranges are those of a show.
 pub fn state(rows: &[Row], ranges: &[Range]) -> Found {
     let mut search = Search {
@@ -196,10 +209,13 @@ pub fn state(rows: &[Row], ranges: &[Range]) -> Found {
             return Found::Unknown;
         }
         match search.look(&next) {
-            Ok(state) if rows.iter().all(|row| value(row, &state) >= 0) => {
-                return Found::State(state)
+            Ok(found) => {
+                let state = lowered(&search.rows, ranges, found);
+                return match rows.iter().all(|row| value(row, &state) >= 0) {
+                    true => Found::State(state),
+                    false => Found::Unknown,
+                };
             }
-            Ok(_) => return Found::Unknown,
             Err(parts) => boxes.extend(parts),
         }
     }

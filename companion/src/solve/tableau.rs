@@ -14,7 +14,7 @@ pub struct Optimum {
     pub duals: Vec<i128>,
 }
 
-/// Column and row 0 are apart: `cells[0]` is the objective, and the last column the right-hand side.
+/// A tableau without the columns of its basis. The first row is the objective, the last column the right-hand side.
 struct Tableau {
     cells: Vec<Vec<i128>>,
     denominator: i128,
@@ -70,12 +70,13 @@ impl Tableau {
         Some(())
     }
 
-    /// The value of a variable, and its reduced cost, both times the denominator.
+    /// The value of a variable times the denominator.
     fn level(&self, variable: usize) -> i128 {
         let row = self.basis.iter().position(|&v| v == variable);
         row.map_or(0, |row| self.cells[row + 1][self.columns.len()])
     }
 
+    /// The reduced cost of a variable times the denominator: of a row's slack, the row's dual.
     fn cost(&self, variable: usize) -> i128 {
         let column = self.columns.iter().position(|&v| v == variable);
         column.map_or(0, |column| self.cells[0][column])
