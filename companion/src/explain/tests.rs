@@ -83,7 +83,7 @@ fn a_finding_that_does_not_happen() {
   start states walk this way, but none of them meets the combination there
   no presses were found that really go wrong, which is no proof that there are none
 
-a lemma that rules this finding out, found by the companion and accepted by the proved Ask:
+a lemma against this finding, found by the companion and accepted by the proved Ask:
   lemma a1 makes not p0 by goal
 
 lemmas: 23 of 23 accepted";

@@ -1,9 +1,9 @@
 //! The lemmas that are not accepted, and by how much.
-use super::missing::accepted;
 use super::{Told, OWN};
+use crate::lemmas;
 use crate::show::fault::thousands;
 use crate::show::model::Lemma;
-use crate::solve::{self, Found, Refutation};
+use crate::solve::{self, Found};
 use crate::text;
 use crate::verdict::mismatch;
 use bulanevior::{ask, Ask};
@@ -43,24 +43,17 @@ fn told_of(told: &Told, number: usize, lemma: &Lemma) -> Result<Vec<String>, Str
     ])
 }
 
-/// Multipliers that show it, or a state that makes it false.
+/// A lemma of the same source and goal that is accepted and applies wherever this one would, or a state that makes it false.
 fn mended(told: &Told, lemma: &Lemma) -> Result<String, String> {
     let logic = &told.show.logic;
-    let rows = logic.rows(lemma.source, lemma.goal, lemma.premises);
-    Ok(match solve::refute(&rows, &logic.ranges) {
-        Refutation::Multipliers(multipliers) => {
-            let better = Lemma {
-                multipliers,
-                ..lemma.clone()
-            };
-            accepted(told, &better)?;
-            format!("Ask accepts: {}", text::lemma(&better, told.names))
-        }
-        Refutation::Unknown => "whether other multipliers show it was not found out".to_string(),
-        Refutation::Feasible => match solve::state(&rows, &logic.ranges) {
-            Found::State(state) => format!("it is false: at {}", told.state(&state)),
-            Found::None => "it is true, but no multipliers show it".to_string(),
-            Found::Unknown => "no multipliers show it".to_string(),
-        },
+    let (source, goal, premises) = (lemma.source, lemma.goal, lemma.premises);
+    if let Some(better) = lemmas::lemma(logic, source, goal, premises)? {
+        return Ok(format!("Ask accepts: {}", text::lemma(&better, told.names)));
+    }
+    let rows = logic.rows(source, goal, premises);
+    Ok(match solve::state(&rows, &logic.ranges) {
+        Found::State(state) => format!("it is false: at {}", told.state(&state)),
+        Found::None => "it is true, but no multipliers were found that show it".to_string(),
+        Found::Unknown => "no multipliers were found that show it".to_string(),
     })
 }

@@ -107,29 +107,23 @@ mod tests {
     use crate::explain::hunt::{forbidden, step};
     use crate::show::model::{Action, Literals};
     use crate::show::rows::Range;
+    use crate::solve::dice::Dice;
 
-    /// Numbers by chance, the same in every run.
-    struct Dice(u64);
+    /// Logics and findings by dice.
+    struct Made(Dice);
 
-    impl Dice {
-        /// A number from low to high.
+    impl Made {
         fn roll(&mut self, low: i64, high: i64) -> i64 {
-            self.0 ^= self.0 << 13;
-            self.0 ^= self.0 >> 7;
-            self.0 ^= self.0 << 17;
-            low + (self.0 % (high - low + 1) as u64) as i64
+            self.0.roll(low, high)
         }
 
         fn row(&mut self) -> Row {
-            let mut row = Row::constant(self.roll(-4, 4));
-            row.coefficients[0] = self.roll(-2, 2);
-            row.coefficients[1] = self.roll(-2, 2);
-            row
+            self.0.row(2, 2, 4)
         }
 
         /// Two variables with few values, two predicates and three actions.
         fn logic(&mut self) -> Logic {
-            let action = |dice: &mut Dice| Action {
+            let action = |dice: &mut Made| Action {
                 guards: (0..dice.roll(0, 2)).map(|_| dice.row()).collect(),
                 sets: (0..2)
                     .filter(|_| dice.roll(0, 2) > 0)
@@ -214,7 +208,7 @@ mod tests {
     /// none passes is the first one.
     #[test]
     fn all_start_states_walk_no_further() {
-        let mut dice = Dice(7);
+        let mut dice = Made(Dice(7));
         let mut seen = [0; 2];
         for _ in 0..3_000 {
             let logic = dice.logic();
@@ -254,7 +248,7 @@ mod tests {
     fn numbers_too_large_are_not_known() {
         let mut times = Row::constant(1);
         times.coefficients[0] = 1000;
-        let mut logic = Dice(1).logic();
+        let mut logic = Made(Dice(1)).logic();
         logic.actions[0] = Action {
             guards: Vec::new(),
             sets: vec![(0, times)],

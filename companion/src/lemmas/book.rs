@@ -97,7 +97,7 @@ impl<'a> Book<'a> {
     }
 
     /// A lemma none of whose premises it can do without.
-    fn found(&self, source: Source, goal: Goal, known: Literals) -> Option<Lemma> {
+    pub fn found(&self, source: Source, goal: Goal, known: Literals) -> Option<Lemma> {
         let none = Literals::default();
         if let Some(lemma) = self.lemma(source, goal, none) {
             return Some(lemma);

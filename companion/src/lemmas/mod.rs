@@ -20,9 +20,23 @@ mod prune;
 use crate::convert::{named, shown, written};
 use crate::input::Input;
 use crate::output::{Said, Status};
-use crate::show::model::Show;
+use crate::show::model::{Goal, Lemma, Literals, Logic, Show, Source};
+use book::Book;
 use checker::Checker;
+pub use explore::touches;
 use lacking::Graph;
+
+/// A lemma that shows a goal where these literals are known, if there is one: Ask has to accept it, or it is trouble.
+pub fn lemma(
+    logic: &Logic,
+    source: Source,
+    goal: Goal,
+    known: Literals,
+) -> Result<Option<Lemma>, String> {
+    let found = Book::new(logic).found(source, goal, known);
+    Checker::new(logic).accepts(found.as_slice())?;
+    Ok(found)
+}
 
 /// The text of a show with the lemmas that were found, and behind it what is lacking; or the trouble.
 pub fn run(input: &Input) -> Result<Said, String> {
