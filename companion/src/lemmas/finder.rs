@@ -165,7 +165,7 @@ impl Finder<'_> {
 
     fn shorter(&mut self, attempt: Attempt) -> Result<Vec<Lemma>, String> {
         let mut lemmas = attempt.lemmas;
-        lemmas.extend(self.from_guards(attempt.followed));
+        lemmas.extend(self.by_guards(attempt.followed));
         let key = |lemma: &Lemma| (lemma.source, lemma.goal, lemma.premises);
         lemmas.sort_by_key(key);
         lemmas.dedup_by_key(|lemma| key(lemma));
@@ -179,7 +179,7 @@ impl Finder<'_> {
     }
 
     /// What guards alone show of predicates that their actions do not touch: with these lemmas others can be left out.
-    fn from_guards(&mut self, followed: Literals) -> Vec<Lemma> {
+    fn by_guards(&mut self, followed: Literals) -> Vec<Lemma> {
         let (logic, none) = (self.logic, Literals::default());
         self.book.begin();
         for action in (0..logic.actions.len()).map(Source::Action) {

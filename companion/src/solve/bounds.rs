@@ -54,8 +54,8 @@ fn by_row(row: &Row, ranges: &mut [Range]) -> Option<()> {
 /// The row's largest value over the ranges.
 fn top(row: &Row, ranges: &[Range]) -> Option<i128> {
     let constant = i128::from(row.constant);
-    let terms = row.coefficients.iter().zip(ranges);
-    terms.fold(Some(constant), |sum, (&c, range)| {
-        sum?.checked_add(most(i128::from(c), range)?)
+    let mut terms = row.coefficients.iter().zip(ranges);
+    terms.try_fold(constant, |sum, (&c, range)| {
+        sum.checked_add(most(i128::from(c), range)?)
     })
 }
