@@ -4,9 +4,9 @@
 # companion, and the operator's program, target/bin/operator if it is not given. It prints `ok` at the end.
 set -eu
 [ $# -eq 1 ] || [ $# -eq 2 ] || { echo "usage: tests/lemmas.sh PROGRAM [JUDGE]"; exit 2; }
-program=$(readlink -f "$1")
+program=$(readlink -f "$1") judge=$(readlink -f "${2-$(dirname "$(readlink -f "$0")")/../target/bin/operator}")
 cd "$(dirname "$(readlink -f "$0")")/.."
-judge=${2-target/bin/operator}
+[ -x "$program" ] && [ -x "$judge" ] || { echo "$1 or the judge is no program"; exit 1; }
 room=$(mktemp -d)
 trap 'rm -rf "$room"' EXIT
 
