@@ -62,6 +62,19 @@ for name in chase blackout; do
     safe "shows/${name}_unshown.words" "$(count "shows/$name.words")"
 done
 
+# Start rows that no state meets: safe, for nothing can happen, and that is said.
+printf '%s\n' 'variable level 0 to 1' 'start level >= 2' >"$room/never"
+found "$room/never" 0
+[ "$("$judge" <"$room/words")" = "SAFE nodes 0 edges 0" ] && [ "$(<"$room/beside")" = "no state meets the start rows: the show cannot start" ] || fail "lemmas of a show that cannot start"
+
+# A designer's way of work, as docs/FORMAT.md has it: the macro of the incident, and with the guard.
+printf '%s\n' 'variable level 0 to 1000' 'start level = 5' 'action macro' '    level := level - 10' >"$room/macro"
+found "$room/macro" 1
+[ "$("$judge" <"$room/words")" = $'RUNOFF node 0 action 0 variable 0 low\nPATH' ] || fail "lemmas of the incident, by a designer"
+sed 's/^action macro$/&\n    when level >= 10/' "$room/macro" >"$room/mended"
+found "$room/mended" 0
+[ "$("$judge" <"$room/words")" = "SAFE nodes 1 edges 1" ] || fail "lemmas of the mended incident, by a designer"
+
 # ---- what is lacking
 
 # The first line about a lemma that is lacking.

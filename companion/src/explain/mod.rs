@@ -25,6 +25,7 @@ mod way;
 
 use crate::findings;
 use crate::input::Input;
+use crate::lemmas::NO_START;
 use crate::output::{Said, Status};
 use crate::show::fault::thousands;
 use crate::show::model::Show;
@@ -102,7 +103,7 @@ fn judgement(told: &Told) -> Result<Said, String> {
 fn safe_lines(told: &Told) -> Vec<String> {
     let mut lines = vec![safe(told.judged.judgement)];
     lines.push(match told.judged.judgement.nodes {
-        0 => "no state meets the start rows: the show cannot start".to_string(),
+        0 => NO_START.to_string(),
         _ => "no list of actions, from any start state, meets a forbidden state or runs a variable off its range".to_string(),
     });
     lines

@@ -38,6 +38,9 @@ pub fn lemma(
     Ok(found)
 }
 
+/// What is said where the start's rows contradict each other: the graph is empty, and so it is safe.
+pub const NO_START: &str = "no state meets the start rows: the show cannot start";
+
 /// The text of a show with the lemmas that were found, and behind it what is lacking; or the trouble.
 pub fn run(input: &Input) -> Result<Said, String> {
     let logic = match shown(input)? {
@@ -50,17 +53,18 @@ pub fn run(input: &Input) -> Result<Said, String> {
     let findings = checker.findings(&lemmas)?;
     let show = Show { logic, lemmas };
     let text = written(&show, &names)?;
-    if findings.is_empty() {
-        return Ok(Said::bytes(text, Status::Good));
-    }
     let graph = Graph {
         logic: &show.logic,
         list: &checker.graph,
     };
-    let behind = graph.lines(&findings, &names);
+    let (behind, status) = match findings.is_empty() {
+        true if graph.is_empty() => (vec![NO_START.to_string()], Status::Good),
+        true => (Vec::new(), Status::Good),
+        false => (graph.lines(&findings, &names), Status::Findings),
+    };
     Ok(Said {
         behind,
-        ..Said::bytes(text, Status::Findings)
+        ..Said::bytes(text, status)
     })
 }
 
