@@ -80,11 +80,6 @@ impl Graph<'_> {
         }
     }
 
-    /// Has it no node?
-    pub fn is_empty(&self) -> bool {
-        self.nodes() == 0
-    }
-
     /// How many nodes there are.
     fn nodes(&self) -> usize {
         let there = |node: &usize| header(self.list, self.logic.actions.len(), *node).is_some();

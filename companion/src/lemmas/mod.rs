@@ -21,6 +21,7 @@ use crate::convert::{named, shown, written};
 use crate::input::Input;
 use crate::output::{Said, Status};
 use crate::show::model::{Goal, Lemma, Literals, Logic, Show, Source};
+use crate::solve::{state, Found};
 use book::Book;
 use checker::Checker;
 pub use explore::touches;
@@ -38,8 +39,16 @@ pub fn lemma(
     Ok(found)
 }
 
-/// What is said where the start's rows contradict each other: the graph is empty, and so it is safe.
+/// What is said where start rows contradict each other: such a show is safe.
 pub const NO_START: &str = "no state meets the start rows: the show cannot start";
+
+/// That a show cannot start, if it cannot.
+fn unstarted(logic: &Logic) -> Vec<String> {
+    match state(&logic.start, &logic.ranges) {
+        Found::None => vec![format!("{NO_START} (worked out by the companion)")],
+        _ => Vec::new(),
+    }
+}
 
 /// The text of a show with the lemmas that were found, and behind it what is lacking; or the trouble.
 pub fn run(input: &Input) -> Result<Said, String> {
@@ -53,14 +62,15 @@ pub fn run(input: &Input) -> Result<Said, String> {
     let findings = checker.findings(&lemmas)?;
     let show = Show { logic, lemmas };
     let text = written(&show, &names)?;
-    let graph = Graph {
-        logic: &show.logic,
-        list: &checker.graph,
-    };
     let (behind, status) = match findings.is_empty() {
-        true if graph.is_empty() => (vec![NO_START.to_string()], Status::Good),
-        true => (Vec::new(), Status::Good),
-        false => (graph.lines(&findings, &names), Status::Findings),
+        true => (unstarted(&show.logic), Status::Good),
+        false => {
+            let graph = Graph {
+                logic: &show.logic,
+                list: &checker.graph,
+            };
+            (graph.lines(&findings, &names), Status::Findings)
+        }
     };
     Ok(Said {
         behind,
