@@ -62,7 +62,10 @@ _Static_assert(sizeof(size_t) == 8, "64-bit numbers only");
 
 uint32_t bnv_version(void);
 
-/* ---- Words: the kind in bits 31 to 28, the payload in bits 27 to 0. */
+/*
+ * ---- Words: the kind in bits 31 to 28, the payload in bits 27 to 0. A macro here or below takes each argument once, and is a constant
+ * expression where its arguments are.
+ */
 
 #define BNV_KIND(word) ((uint32_t)(word) >> 28)
 #define BNV_PAYLOAD(word) ((uint32_t)(word) & 0x0FFFFFFFu)

@@ -57,7 +57,7 @@ class File:
     def title(self):
         """The first sentence of the file."""
         lines = [line.removeprefix("--").strip() for line in self.head]
-        return re.split(r"\.(?: |$)", " ".join(lines[:lines.index("")] if "" in lines else lines))[0]
+        return re.split(r"(?<![ .])\.(?: |$)", " ".join(lines[:lines.index("")] if "" in lines else lines))[0]
 
 
 def without_comment(line):

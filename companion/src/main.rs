@@ -116,7 +116,7 @@ fn usage() -> String {
         .collect();
     format!(
         "Usage: bulanevior COMMAND [--] [FILE]
-Says in words, or draws, what the proved calls answer for the show in FILE; on standard input without FILE, or for -.
+Says, explains, draws and writes the logic of the show in FILE; on standard input without FILE, or for -.
 A show is words or text, to every command.
 {commands}  help       this text, as --help, and --version the version: each alone
 Status: 0  safe; of text and words, which do not judge, that they are whole

@@ -15,6 +15,7 @@
 //! assert_eq!(check(&logic).map(|counts| counts.actions), Ok(1));
 //! assert_eq!(word::term_coefficient(word::term(0, -1)), -1);
 //! assert_eq!(word::lemma(0, raw::BNV_GOAL_LOW, 0), 0x9003_0000);
+//! assert_eq!(word::lemma(word::START, raw::BNV_GOAL_FAILS, 0), 0x9FF2_0000);
 //! ```
 use crate::raw;
 
@@ -88,7 +89,10 @@ pub const fn sets(hold: u32, fail: u32) -> u32 {
     make(raw::BNV_SETS, (fail & 16383) << 14 | hold & 16383)
 }
 
-/// A lemma's source, an action or `raw::BNV_START`, its goal, one of `raw::BNV_GOAL_..`, and the goal's index.
+/// The source of a lemma that is the start and no action.
+pub const START: usize = raw::BNV_START as usize;
+
+/// A lemma's source, an action or `START`, its goal, one of `raw::BNV_GOAL_..`, and the goal's index.
 pub const fn lemma(source: usize, goal: u32, index: usize) -> u32 {
     let (source, index) = (source as u32 & 255, index as u32 & 255);
     make(raw::BNV_LEMMA, source << 20 | (goal & 15) << 16 | index)

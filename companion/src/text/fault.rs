@@ -37,11 +37,13 @@ const QUOTED: usize = 40;
 
 /// A part of the text, as a message quotes it.
 pub fn quoted(text: &str) -> String {
-    let mut shown: String = text
-        .chars()
-        .take(QUOTED)
-        .flat_map(char::escape_debug)
-        .collect();
+    let mut shown = String::new();
+    for c in text.chars().take(QUOTED) {
+        match c {
+            '\'' | '"' => shown.push(c),
+            _ => shown.extend(c.escape_debug()),
+        }
+    }
     if text.chars().nth(QUOTED).is_some() {
         shown.push_str("...");
     }

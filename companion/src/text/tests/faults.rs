@@ -51,6 +51,7 @@ fn lines_and_names() {
     all(&[
         ("action ünter", "8: `ü` has no meaning here; names are of the letters a to z and A to Z, digits and _"),
         ("action a\r b", "9: `\\r` has no meaning here; names are of the letters a to z and A to Z, digits and _"),
+        ("action don't", "11: `'` has no meaning here; names are of the letters a to z and A to Z, digits and _"),
         ("start level >= 5;", "17: `;` has no meaning here; names are of the letters a to z and A to Z, digits and _"),
         ("action 2nd", "8: `2nd` is no name; a name begins with a letter"),
         ("action _x", "8: `_x` is no name; a name begins with a letter"),
