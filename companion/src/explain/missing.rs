@@ -6,7 +6,7 @@ use crate::lemmas::{lemma, touches};
 use crate::show::model::{Goal, Lemma, Literals, Source};
 use crate::text;
 use crate::verdict::Step;
-use bulanevior::{End, Finding};
+use bulanevior::Finding;
 
 /// The presses from the last to the first, and the start, each with what is known before it.
 fn sources(told: &Told, path: &[Step]) -> Result<Vec<(Source, Literals)>, String> {
@@ -16,12 +16,12 @@ fn sources(told: &Told, path: &[Step]) -> Result<Vec<(Source, Literals)>, String
     presses.chain([start]).collect()
 }
 
-/// A lemma that shows a goal about a predicate, at the last source that touches it or behind that.
-fn against(told: &Told, goal: Goal, p: usize, path: &[Step]) -> Result<Option<Lemma>, String> {
+/// A lemma that shows that a literal is not so, at the last source that touches its predicate or behind that.
+fn against(told: &Told, literal: (usize, bool), path: &[Step]) -> Result<Option<Lemma>, String> {
     let logic = &told.show.logic;
     for (source, known) in sources(told, path)? {
-        let found = lemma(logic, source, goal, known)?;
-        if found.is_some() || touches(logic, source, p) {
+        let found = lemma(logic, source, Goal::against(literal), known)?;
+        if found.is_some() || touches(logic, source, literal.0) {
             return Ok(found);
         }
     }
@@ -37,20 +37,12 @@ fn found(told: &Told, finding: Finding, path: &[Step]) -> Result<Option<Lemma>, 
             variable,
             end,
         } => {
-            let goal = match end {
-                End::Low => Goal::Low(variable),
-                End::High => Goal::High(variable),
-            };
+            let goal = Goal::keeps(variable, end);
             lemma(logic, Source::Action(action), goal, literals(told, node)?)
         }
         Finding::MayForbid { combination, .. } => {
-            for (p, holds) in logic.forbidden[combination].each() {
-                let goal = if holds {
-                    Goal::Fails(p)
-                } else {
-                    Goal::Holds(p)
-                };
-                if let Some(lemma) = against(told, goal, p, path)? {
+            for literal in logic.forbidden[combination].each() {
+                if let Some(lemma) = against(told, literal, path)? {
                     return Ok(Some(lemma));
                 }
             }

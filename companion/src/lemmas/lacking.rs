@@ -114,13 +114,9 @@ impl Graph<'_> {
             if open.is_empty() {
                 lacks.push(self.lack((source, node), Goal::Never, Some(combination)));
             }
-            lacks.extend(open.into_iter().map(|(p, holds)| {
-                let goal = if holds {
-                    Goal::Fails(p)
-                } else {
-                    Goal::Holds(p)
-                };
-                self.lack(self.touched((source, node), p), goal, Some(combination))
+            lacks.extend(open.into_iter().map(|literal| {
+                let place = self.touched((source, node), literal.0);
+                self.lack(place, Goal::against(literal), Some(combination))
             }));
         }
         lacks
@@ -153,10 +149,7 @@ impl Graph<'_> {
                 variable,
                 end,
             } => {
-                let goal = match end {
-                    End::Low => Goal::Low(variable),
-                    End::High => Goal::High(variable),
-                };
+                let goal = Goal::keeps(variable, end);
                 vec![self.lack((Source::Action(action), Some(node)), goal, None)]
             }
         }
