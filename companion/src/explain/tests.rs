@@ -1,6 +1,6 @@
 //! What is said of shows whose findings are worked out by hand, in the comments of their texts.
 use super::run;
-use crate::input::Input;
+use crate::input::{self, Input};
 use crate::output::Status;
 
 fn said(bytes: &[u8]) -> (String, Status) {
@@ -10,6 +10,11 @@ fn said(bytes: &[u8]) -> (String, Status) {
     };
     let said = run(&input).unwrap();
     (said.lines.collect::<Vec<_>>().join("\n"), said.status)
+}
+
+fn said_of(text: &str) -> String {
+    let input = input::of(text.as_bytes().to_vec()).unwrap();
+    run(&input).unwrap().lines.collect::<Vec<_>>().join("\n")
 }
 
 const STANDS: &str = "v0 stands for variable 0, p0 for predicate 0, a0 for action 0, and so on";
@@ -104,6 +109,31 @@ fn a_finding_that_happens_by_other_presses() {
     ] {
         assert!(text.lines().any(|said| said == line), "{line}: {text}");
     }
+}
+
+/// x + y is even and x - y odd at the start: there is no such state, and halving ranges does not come to see it. So nothing is said of states
+/// that walk the way, though none of them could meet the combination.
+#[test]
+fn a_search_that_is_given_up() {
+    let text = said_of(
+        "variable x 0 to 8000
+variable y 0 to 8000
+variable z 0 to 8000
+variable w -8000 to 8000
+variable k 0 to 1
+start x + y - 2 z = 0 and x - y - 2 w = 1 and k <= 0
+predicate far: x >= 8001
+predicate on: k >= 1
+action press
+    k := 1
+forbid far and on
+lemma start makes not on by goal, row 4
+lemma press makes on by goal
+lemma press keeps k low by goal
+lemma press keeps k high by goal",
+    );
+    let none = "no start state was found that walks this way and meets the combination there";
+    assert!(text.contains(none), "{text}");
 }
 
 #[test]
