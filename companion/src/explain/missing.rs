@@ -1,5 +1,5 @@
-//! A lemma that would rule a finding out, where one can be had: at the node of a run-off; or on the way to a forbidden combination, at the
-//! last press that can say something of one of its predicates.
+//! A lemma that would rule a finding out, where one can be had: that the show cannot start; at the node of a run-off; or on the way to a
+//! forbidden combination, at the last press that can say something of one of its predicates.
 use super::way::literals;
 use super::Told;
 use crate::lemmas::{lemma, touches};
@@ -30,6 +30,10 @@ fn against(told: &Told, goal: Goal, p: usize, path: &[Step]) -> Result<Option<Le
 
 fn found(told: &Told, finding: Finding, path: &[Step]) -> Result<Option<Lemma>, String> {
     let logic = &told.show.logic;
+    let unstarted = lemma(logic, Source::Start, Goal::Never, Literals::default())?;
+    if unstarted.is_some() {
+        return Ok(unstarted);
+    }
     match finding {
         Finding::MayRunOff {
             node,

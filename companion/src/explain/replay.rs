@@ -2,8 +2,13 @@
 use super::hunt::{self, forbidden, Wrong};
 use super::walk::{Reach, Walk};
 use super::{shortened, Told, OWN};
+use crate::lemmas::NO_START;
 use crate::verdict::{mismatch, Step};
 use bulanevior::{Finding, Step as Pressed};
+
+/// Behind presses that walk the path to the finding, and behind others.
+const HAPPENS: &str = "  it really happens";
+const OTHERS: &str = "  these presses really go wrong";
 
 /// What happens to a start state on a path to a finding, and whether something really goes wrong.
 pub fn lines(told: &Told, finding: Finding, path: &[Step]) -> Result<(Vec<String>, bool), String> {
@@ -16,8 +21,11 @@ pub fn lines(told: &Told, finding: Finding, path: &[Step]) -> Result<(Vec<String
                 Finding::MayForbid { combination, .. } => Wrong::Forbidden(combination),
                 Finding::MayRunOff { action, .. } => Wrong::RunsOff(action),
             };
-            return Ok((replayed(told, &start, &presses, wrong)?, true));
+            let mut lines = replayed(told, &start, &presses, wrong)?;
+            lines.push(HAPPENS.to_string());
+            return Ok((lines, true));
         }
+        Reach::Until(0) => return Ok((vec![OWN.to_string(), format!("  {NO_START}")], false)),
         Reach::Until(stage) => Some(stage),
         Reach::Unknown => None,
     };
@@ -29,6 +37,7 @@ pub fn lines(told: &Told, finding: Finding, path: &[Step]) -> Result<(Vec<String
             lines.push("  but other presses go wrong".to_string());
             lines.push(String::new());
             lines.extend(replayed(told, &fault.start, &fault.presses, fault.wrong)?);
+            lines.push(OTHERS.to_string());
         }
         None => {
             let none =
@@ -39,7 +48,7 @@ pub fn lines(told: &Told, finding: Finding, path: &[Step]) -> Result<(Vec<String
     Ok((lines, fault.is_some()))
 }
 
-/// Why no start state walks the path to the finding.
+/// Why no start state walks the path to the finding; there are start states.
 fn unwalked(told: &Told, finding: Finding, path: &[Step], stage: Option<usize>) -> String {
     let there = match finding {
         Finding::MayForbid { .. } => "meets the combination there",
@@ -47,7 +56,6 @@ fn unwalked(told: &Told, finding: Finding, path: &[Step], stage: Option<usize>) 
     };
     match stage {
         None => format!("no start state was found that walks this way and {there}"),
-        Some(0) => "no state meets the start rows".to_string(),
         Some(k) if k <= path.len() => {
             let action = told.action(path[k - 1].action);
             format!("no start state walks this way, it is one in the graph only: none takes press {k}, {action}")
@@ -68,10 +76,20 @@ fn pressed(
     let does = match answer {
         Pressed::Moved => format!("moves to {}", told.state(state)),
         Pressed::NotEnabled(near) => format!("is not enabled: {near}"),
-        Pressed::RunsOff(v) => format!("runs {} off its range", told.names.variables[v]),
+        Pressed::RunsOff(v) => ran_off(told, action, v, state)?,
     };
     let line = format!("  press {number}: {} {does}", told.action(action));
     Ok((line, answer))
+}
+
+/// An action runs a variable off its range: Step does not say to what, and a rack of sixteen bits stores it.
+fn ran_off(told: &Told, action: usize, v: usize, state: &[i32]) -> Result<String, String> {
+    let mut stored = state.to_vec();
+    bulanevior::rack_step(&told.judged.logic, action, &mut stored).map_err(mismatch)?;
+    let (name, stored) = (&told.names.variables[v], stored[v]);
+    Ok(format!(
+        "runs {name} off its range: a rack would store {stored}"
+    ))
 }
 
 /// The presses from a start state, and what goes wrong behind them.
@@ -96,7 +114,6 @@ fn replayed(
     }
     lines.extend(shortened(moves));
     lines.push(ended(told, presses.len(), &mut state, wrong)?);
-    lines.push("  it really happens".to_string());
     Ok(lines)
 }
 

@@ -65,7 +65,7 @@ the way there in the graph:
 
 replayed by the proved Step, from a start state that the companion found:
   v0 5
-  press 1: action 0 runs v0 off its range
+  press 1: action 0 runs v0 off its range: a rack would store -5
   it really happens
 
 lemmas: 1 of 2 accepted
@@ -105,10 +105,51 @@ fn a_finding_that_happens_by_other_presses() {
         "  press 1: action 0 moves to v0 0, v1 1",
         "  .. 177 presses more ..",
         "  press 201: action 1 moves to v0 1000, v1 1",
-        "  press 202: action 1 runs v0 off its range",
+        "  press 202: action 1 runs v0 off its range: a rack would store 1005",
+        "  these presses really go wrong",
     ] {
         assert!(text.lines().any(|said| said == line), "{line}: {text}");
     }
+}
+
+/// Up to 3, and then one more: not below 0, which is the finding.
+#[test]
+fn other_presses_are_not_the_finding() {
+    let text = said_of(
+        "variable level 0 to 3
+start level = 0
+action up
+    level := level + 1",
+    );
+    for line in [
+        "action 0 may take variable 0 below its low end at node 0; actions: none",
+        "  no start state runs off there",
+        "  but other presses go wrong",
+        "  press 4: action 0 (up) runs level off its range: a rack would store 4",
+        "  these presses really go wrong",
+    ] {
+        assert!(text.lines().any(|said| said == line), "{line}: {text}");
+    }
+    assert!(!text.contains("it really happens"), "{text}");
+}
+
+/// At least 5 and at most 3: nothing goes wrong.
+#[test]
+fn a_show_that_cannot_start() {
+    let text = said_of(
+        "variable level 0 to 9
+start level >= 5 and level <= 3
+action up
+    level := level + 1",
+    );
+    let expected = "worked out by the companion, not proved:
+  no state meets the start rows: the show cannot start
+
+a lemma against this finding, found by the companion and accepted by the proved Ask:
+  lemma start never by row 0, row 1
+
+lemmas: 0 of 0 accepted";
+    assert!(text.ends_with(expected), "{text}");
 }
 
 /// x + y is even and x - y odd at the start: there is no such state, and halving ranges does not come to see it. So nothing is said of states
