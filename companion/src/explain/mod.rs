@@ -10,8 +10,8 @@
 //! | `replay` | presses by the proved Step, from a start state |
 //! | `unaccepted` | the lemmas that are not accepted, and by how much |
 //!
-//! Verdict, finding, graph, path, steps and whether a lemma is accepted come from the proved calls. What the companion works out
-//! itself stands under a line that says so.
+//! Verdict, finding, graph, path, steps, what is so at a state and whether a lemma is accepted come from the proved calls. What the companion
+//! works out itself stands under a line that says so.
 
 mod hunt;
 mod missing;

@@ -1,8 +1,10 @@
 //! Presses by the proved Step, from a start state that the companion finds: does a finding really happen?
-use super::hunt::{self, forbidden, Wrong};
+use super::hunt::{self, Wrong};
 use super::walk::{Reach, Walk};
 use super::{shortened, Told, OWN};
-use crate::lemmas::NO_START;
+use crate::lemmas::{lemma, NO_START};
+use crate::show::model::{Goal, Literals, Logic, Source};
+use crate::show::rows::{Range, Row};
 use crate::verdict::{mismatch, Step};
 use bulanevior::{Finding, Step as Pressed};
 
@@ -92,6 +94,30 @@ fn ran_off(told: &Told, action: usize, v: usize, state: &[i32]) -> Result<String
     ))
 }
 
+/// That literals of these predicates are so at a state, or the trouble. The proved Ask says it: over ranges that are that state alone, each is
+/// a lemma of the start.
+fn so_at(state: &[i32], predicates: &[Row], literals: Literals) -> Result<(), String> {
+    let only = |&x: &i32| Range {
+        low: x.into(),
+        high: x.into(),
+    };
+    let logic = Logic {
+        ranges: state.iter().map(only).collect(),
+        predicates: predicates.to_vec(),
+        ..Logic::default()
+    };
+    for (p, holds) in literals.each() {
+        let goal = if holds {
+            Goal::Holds(p)
+        } else {
+            Goal::Fails(p)
+        };
+        let shown = lemma(&logic, Source::Start, goal, Literals::default())?;
+        shown.ok_or_else(|| mismatch(format!("the companion's walk: {goal:?} at {state:?}")))?;
+    }
+    Ok(())
+}
+
 /// The presses from a start state, and what goes wrong behind them.
 fn replayed(
     told: &Told,
@@ -100,6 +126,9 @@ fn replayed(
     wrong: Wrong,
 ) -> Result<Vec<String>, String> {
     let mut state: Vec<i32> = start.iter().map(|&x| x as i32).collect();
+    let rows = &told.show.logic.start;
+    let all = (0..rows.len()).fold(Literals::default(), |all, row| all.with(row, true));
+    so_at(&state, rows, all)?;
     let mut lines = vec![
         "replayed by the proved Step, from a start state that the companion found:".to_string(),
     ];
@@ -117,19 +146,17 @@ fn replayed(
     Ok(lines)
 }
 
-/// What goes wrong at the end: an action runs off, or the state is forbidden, which is read off its values.
+/// What goes wrong at the end: an action runs off, or the state is forbidden.
 fn ended(told: &Told, presses: usize, state: &mut [i32], wrong: Wrong) -> Result<String, String> {
-    let values: Vec<i64> = state.iter().map(|&x| x.into()).collect();
+    let logic = &told.show.logic;
     match wrong {
         Wrong::RunsOff(action) => match pressed(told, presses + 1, action, state)? {
             (line, Pressed::RunsOff(_)) => Ok(line),
             (line, _) => Err(mismatch(format!("the companion's walk:{line}"))),
         },
-        Wrong::Forbidden(_) => match forbidden(&told.show.logic, &values) {
-            Some(k) => Ok(format!("  this state meets forbidden combination {k}")),
-            None => Err(mismatch(
-                "the companion's walk ends in a state that is allowed",
-            )),
-        },
+        Wrong::Forbidden(k) => {
+            so_at(state, &logic.predicates, logic.forbidden[k])?;
+            Ok(format!("  this state meets forbidden combination {k}"))
+        }
     }
 }
