@@ -141,7 +141,8 @@ fn count(told: &Told) -> Result<String, String> {
 /// Lines with the middle of them left out where there are too many: pieces of lines, each told whole or not at all.
 fn shortened(pieces: Vec<Vec<String>>) -> Vec<String> {
     let left_out = pieces.len().saturating_sub(TOLD);
-    let note = vec![format!("  .. {left_out} presses more ..")];
+    let s = if left_out == 1 { "" } else { "es" };
+    let note = vec![format!("  .. {left_out} press{s} more ..")];
     let (first, rest) = pieces.split_at(pieces.len().min(TOLD / 2));
     match left_out {
         0 => pieces.concat(),

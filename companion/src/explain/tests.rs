@@ -69,7 +69,7 @@ replayed by the proved Step, from a start state that the companion found:
   it really happens
 
 lemmas: 1 of 2 accepted
-not accepted, and by how much, worked out by the companion, not proved:
+the others are not; by how much, and why, is worked out by the companion, not proved:
   number 0: lemma a0 keeps v0 low by goal
     its sum reaches 9, and has to stay below 0
     it is false: at v0 0"

@@ -21,7 +21,9 @@ pub fn lines(told: &Told) -> Result<Vec<String>, String> {
     let all = told.show.lemmas.len();
     let mut lines = vec![format!("lemmas: {} of {all} accepted", all - others.len())];
     if !others.is_empty() {
-        lines.push(format!("not accepted, and by how much, {OWN}"));
+        lines.push(format!(
+            "the others are not; by how much, and why, is {OWN}"
+        ));
     }
     for (number, lemma) in others {
         lines.extend(told_of(told, number, lemma)?);
