@@ -6,7 +6,7 @@ use crate::lemmas::{lemma, touches};
 use crate::show::model::{Goal, Lemma, Literals, Source};
 use crate::text;
 use crate::verdict::Step;
-use bulanevior::{End, Finding};
+use bulanevior::Finding;
 
 /// The presses from the last to the first, and the start, each with what is known before it.
 fn sources(told: &Told, path: &[Step]) -> Result<Vec<(Source, Literals)>, String> {
@@ -41,19 +41,12 @@ fn found(told: &Told, finding: Finding, path: &[Step]) -> Result<Option<Lemma>, 
             variable,
             end,
         } => {
-            let goal = match end {
-                End::Low => Goal::Low(variable),
-                End::High => Goal::High(variable),
-            };
+            let goal = Goal::kept(variable, end);
             lemma(logic, Source::Action(action), goal, literals(told, node)?)
         }
         Finding::MayForbid { combination, .. } => {
             for (p, holds) in logic.forbidden[combination].each() {
-                let goal = if holds {
-                    Goal::Fails(p)
-                } else {
-                    Goal::Holds(p)
-                };
+                let goal = Goal::literal(p, !holds);
                 if let Some(lemma) = against(told, goal, p, path)? {
                     return Ok(Some(lemma));
                 }

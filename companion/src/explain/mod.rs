@@ -57,15 +57,6 @@ impl Told<'_> {
             false => format!("action {action}"),
         }
     }
-
-    /// "level 5, house 0"
-    fn state<T: Into<i64> + Copy>(&self, state: &[T]) -> String {
-        let values = self.names.variables.iter().zip(state);
-        let said: Vec<String> = values
-            .map(|(name, &value)| format!("{name} {}", value.into()))
-            .collect();
-        said.join(", ")
-    }
 }
 
 /// What is said of a show, or the trouble.

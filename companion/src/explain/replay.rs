@@ -76,7 +76,7 @@ fn pressed(
 ) -> Result<(String, Pressed), String> {
     let answer = bulanevior::step(&told.judged.logic, action, state).map_err(mismatch)?;
     let does = match answer {
-        Pressed::Moved => format!("moves to {}", told.state(state)),
+        Pressed::Moved => format!("moves to {}", told.names.state(state)),
         Pressed::NotEnabled(near) => format!("is not enabled: {near}"),
         Pressed::RunsOff(v) => ran_off(told, action, v, state)?,
     };
@@ -107,11 +107,7 @@ fn so_at(state: &[i32], predicates: &[Row], literals: Literals) -> Result<(), St
         ..Logic::default()
     };
     for (p, holds) in literals.each() {
-        let goal = if holds {
-            Goal::Holds(p)
-        } else {
-            Goal::Fails(p)
-        };
+        let goal = Goal::literal(p, holds);
         let shown = lemma(&logic, Source::Start, goal, Literals::default())?;
         shown.ok_or_else(|| mismatch(format!("the companion's walk: {goal:?} at {state:?}")))?;
     }
@@ -132,7 +128,7 @@ fn replayed(
     let mut lines = vec![
         "replayed by the proved Step, from a start state that the companion found:".to_string(),
     ];
-    lines.push(format!("  {}", told.state(&state)));
+    lines.push(format!("  {}", told.names.state(&state)));
     let mut moves = Vec::new();
     for (number, &action) in (1..).zip(presses) {
         let (line, answer) = pressed(told, number, action, &mut state)?;

@@ -54,7 +54,7 @@ fn mended(told: &Told, lemma: &Lemma) -> Result<String, String> {
     }
     let rows = logic.rows(source, goal, premises);
     Ok(match solve::state(&rows, &logic.ranges) {
-        Found::State(state) => format!("it is false: at {}", told.state(&state)),
+        Found::State(state) => format!("it is false: at {}", told.names.state(&state)),
         Found::None => "it is true, but no multipliers were found that show it".to_string(),
         Found::Unknown => "no multipliers were found that show it".to_string(),
     })

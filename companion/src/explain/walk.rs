@@ -4,7 +4,7 @@ use crate::show::model::{Goal, Logic};
 use crate::show::rows::Row;
 use crate::solve::{self, Found};
 use crate::verdict::Step;
-use bulanevior::{End, Finding};
+use bulanevior::Finding;
 
 /// The rows that each stage adds: the start, each press, and the finding at the end.
 pub struct Walk {
@@ -35,10 +35,7 @@ fn ending(logic: &Logic, finding: Finding) -> Vec<Row> {
             end,
             ..
         } => {
-            let goal = match end {
-                End::Low => Goal::Low(variable),
-                End::High => Goal::High(variable),
-            };
+            let goal = Goal::kept(variable, end);
             let action = &logic.actions[action];
             let off = logic
                 .goal(goal)
@@ -113,6 +110,7 @@ mod tests {
     use crate::show::model::{Action, Literals};
     use crate::show::rows::Range;
     use crate::solve::dice::Dice;
+    use bulanevior::End;
 
     /// Logics and findings by dice.
     struct Made(Dice);

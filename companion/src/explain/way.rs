@@ -84,14 +84,15 @@ fn met(told: &Told, combination: usize) -> Vec<String> {
 /// An action that may pass an end, with its guard and assignments, and the lemma that would rule it out.
 fn ran_off(told: &Told, action: usize, variable: usize, end: End) -> Vec<String> {
     let range = told.show.logic.ranges[variable];
-    let (goal, way, past) = match end {
-        End::Low => (Goal::Low(variable), "below", range.low),
-        End::High => (Goal::High(variable), "above", range.high),
+    let (way, past) = match end {
+        End::Low => ("below", range.low),
+        End::High => ("above", range.high),
     };
     let (name, past) = (&told.names.variables[variable], thousands(past));
     let press = told.action(action);
     let mut lines = vec![format!("  there {press} may take {name} {way} {past}:")];
     lines.extend(rows(told, action));
+    let goal = Goal::kept(variable, end);
     let wanted = text::lemma_head(Source::Action(action), goal, told.names);
     lines.push(format!(
         "    no accepted lemma that applies there shows: {wanted}"

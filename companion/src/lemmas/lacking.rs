@@ -115,11 +115,7 @@ impl Graph<'_> {
                 lacks.push(self.lack((source, node), Goal::Never, Some(combination)));
             }
             lacks.extend(open.into_iter().map(|(p, holds)| {
-                let goal = if holds {
-                    Goal::Fails(p)
-                } else {
-                    Goal::Holds(p)
-                };
+                let goal = Goal::literal(p, !holds);
                 self.lack(self.touched((source, node), p), goal, Some(combination))
             }));
         }
@@ -153,10 +149,7 @@ impl Graph<'_> {
                 variable,
                 end,
             } => {
-                let goal = match end {
-                    End::Low => Goal::Low(variable),
-                    End::High => Goal::High(variable),
-                };
+                let goal = Goal::kept(variable, end);
                 vec![self.lack((Source::Action(action), Some(node)), goal, None)]
             }
         }
@@ -234,10 +227,8 @@ impl Graph<'_> {
         let rows = self.logic.rows(lack.source, lack.goal, lack.known);
         match state(&rows, &self.logic.ranges) {
             Found::State(state) => {
-                let values = names.variables.iter().zip(&state);
-                let values: Vec<String> = values.map(|(v, x)| format!("{v} {x}")).collect();
                 let after = self.after(lack, &state, names);
-                format!("false at {}{after}", values.join(", "))
+                format!("false at {}{after}", names.state(&state))
             }
             Found::None if self.showable(&lack) => UNFOLLOWED.to_string(),
             Found::None => BETWEEN.to_string(),

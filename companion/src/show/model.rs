@@ -1,6 +1,6 @@
 //! Logics and lemmas as plain values, the rows that a lemma is about, and their words.
 use super::rows::{Range, Row};
-use bulanevior::{raw, word};
+use bulanevior::{raw, word, End};
 
 /// The most start rows, guard rows or assignments of an action, and forbidden combinations, which are the same.
 pub const ROWS: usize = bulanevior::MOST_START_ROWS;
@@ -106,6 +106,24 @@ pub enum Goal {
     Low(usize),
     /// The variable is not above its high end afterwards.
     High(usize),
+}
+
+impl Goal {
+    /// That a predicate holds, or fails, afterwards.
+    pub fn literal(predicate: usize, holds: bool) -> Goal {
+        match holds {
+            true => Goal::Holds(predicate),
+            false => Goal::Fails(predicate),
+        }
+    }
+
+    /// That an end of a variable is kept to.
+    pub fn kept(variable: usize, end: End) -> Goal {
+        match end {
+            End::Low => Goal::Low(variable),
+            End::High => Goal::High(variable),
+        }
+    }
 }
 
 #[derive(Clone, Debug, PartialEq, Eq)]
