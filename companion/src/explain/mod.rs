@@ -32,7 +32,7 @@ use crate::show::model::Show;
 use crate::show::names::Names;
 use crate::show::reading;
 use crate::verdict::{self, mismatch, path, presses, safe, sentence, Answer, Judged, Step};
-use bulanevior::Finding;
+use bulanevior::{End, Finding};
 
 /// The most presses that are told one by one; of more, the first and the last of them.
 const TOLD: usize = 24;
@@ -56,6 +56,16 @@ impl Told<'_> {
             true => format!("action {action} ({})", self.names.actions[action]),
             false => format!("action {action}"),
         }
+    }
+
+    /// "level below 0"
+    fn past(&self, variable: usize, end: End) -> String {
+        let range = self.show.logic.ranges[variable];
+        let (way, past) = match end {
+            End::Low => ("below", range.low),
+            End::High => ("above", range.high),
+        };
+        format!("{} {way} {past}", self.names.variables[variable])
     }
 }
 

@@ -36,7 +36,7 @@ pub fn lines(told: &Told, finding: Finding, path: &[Step]) -> Result<(Vec<String
     let fault = hunt::hunt(logic);
     match &fault {
         Some(fault) => {
-            lines.push("  but other presses go wrong".to_string());
+            lines.push("  but there are presses that go wrong".to_string());
             lines.push(String::new());
             lines.extend(replayed(told, &fault.start, &fault.presses, fault.wrong)?);
             lines.push(OTHERS.to_string());
@@ -53,8 +53,11 @@ pub fn lines(told: &Told, finding: Finding, path: &[Step]) -> Result<(Vec<String
 /// Why no start state walks the path to the finding; there are start states.
 fn unwalked(told: &Told, finding: Finding, path: &[Step], stage: Option<usize>) -> String {
     let there = match finding {
-        Finding::MayForbid { .. } => "meets the combination there",
-        Finding::MayRunOff { .. } => "runs off there",
+        Finding::MayForbid { .. } => "meets the combination there".to_string(),
+        Finding::MayRunOff { variable, end, .. } => {
+            let past = told.past(variable, end);
+            format!("takes {past} there")
+        }
     };
     match stage {
         None => format!("no start state was found that walks this way and {there}"),
@@ -78,20 +81,23 @@ fn pressed(
     let does = match answer {
         Pressed::Moved => format!("moves to {}", told.names.state(state)),
         Pressed::NotEnabled(near) => format!("is not enabled: {near}"),
-        Pressed::RunsOff(v) => ran_off(told, action, v, state)?,
+        Pressed::RunsOff(v) => ran_off(told, action, v, state),
     };
     let line = format!("  press {number}: {} {does}", told.action(action));
     Ok((line, answer))
 }
 
-/// An action runs a variable off its range: Step does not say to what, and a rack of sixteen bits stores it.
-fn ran_off(told: &Told, action: usize, v: usize, state: &[i32]) -> Result<String, String> {
-    let mut stored = state.to_vec();
-    bulanevior::rack_step(&told.judged.logic, action, &mut stored).map_err(mismatch)?;
-    let (name, stored) = (&told.names.variables[v], stored[v]);
-    Ok(format!(
-        "runs {name} off its range: a rack would store {stored}"
-    ))
+/// An action runs a variable off its range. Step does not say to what.
+fn ran_off(told: &Told, action: usize, v: usize, state: &[i32]) -> String {
+    let values: Vec<i64> = state.iter().map(|&x| x.into()).collect();
+    let new = told.show.logic.actions[action]
+        .sets
+        .iter()
+        .find(|set| set.0 == v);
+    let to = new.map_or_else(String::new, |(_, row)| {
+        format!(", to {} (worked out by the companion)", row.value(&values))
+    });
+    format!("runs {} off its range{to}", told.names.variables[v])
 }
 
 /// That literals of these predicates are so at a state, or the trouble. The proved Ask says it: over ranges that are that state alone, each is

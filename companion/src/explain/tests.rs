@@ -65,7 +65,7 @@ the way there in the graph:
 
 replayed by the proved Step, from a start state that the companion found:
   v0 5
-  press 1: action 0 runs v0 off its range: a rack would store -5
+  press 1: action 0 runs v0 off its range, to -5 (worked out by the companion)
   it really happens
 
 lemmas: 1 of 2 accepted
@@ -100,12 +100,12 @@ lemmas: 23 of 23 accepted";
 fn a_finding_that_happens_by_other_presses() {
     let (text, _) = said(include_bytes!("../../../shows/bump.words"));
     for line in [
-        "  start states walk this way, but none of them runs off there",
-        "  but other presses go wrong",
+        "  start states walk this way, but none of them takes v0 above 1000 there",
+        "  but there are presses that go wrong",
         "  press 1: action 0 moves to v0 0, v1 1",
         "  .. 177 presses more ..",
         "  press 201: action 1 moves to v0 1000, v1 1",
-        "  press 202: action 1 runs v0 off its range: a rack would store 1005",
+        "  press 202: action 1 runs v0 off its range, to 1005 (worked out by the companion)",
         "  these presses really go wrong",
     ] {
         assert!(text.lines().any(|said| said == line), "{line}: {text}");
@@ -123,14 +123,20 @@ action up
     );
     for line in [
         "action 0 may take variable 0 below its low end at node 0; actions: none",
-        "  no start state runs off there",
-        "  but other presses go wrong",
-        "  press 4: action 0 (up) runs level off its range: a rack would store 4",
+        "  no start state takes level below 0 there",
+        "  but there are presses that go wrong",
+        "  press 4: action 0 (up) runs level off its range, to 4 (worked out by the companion)",
         "  these presses really go wrong",
     ] {
         assert!(text.lines().any(|said| said == line), "{line}: {text}");
     }
     assert!(!text.contains("it really happens"), "{text}");
+    // From 3 the press runs off at once, at the other end.
+    let text = said_of("variable level 0 to 3\nstart level = 3\naction up\n    level := level + 1");
+    assert!(text.contains("  no start state takes level below 0 there\n"));
+    assert!(text.contains(
+        "  press 1: action 0 (up) runs level off its range, to 4 (worked out by the companion)\n"
+    ));
 }
 
 /// At least 5 and at most 3: nothing goes wrong.
