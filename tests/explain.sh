@@ -33,11 +33,11 @@ explains() { # SHOW
     told=$((told + 1))
 }
 
-# A finding is one of as many as BIN lists, and it is said whether it really happens.
+# A finding is one of as many as BIN lists, and it is said whether it really happens, or something else does.
 counted() {
     local count
     count=$(wc -l <"$room/lines")
-    tr -d , <"$room/out" | grep -qE "^it is the (only finding|first of $count findings)" && [ $(grep -cE '^  it really happens$|^  no presses were found' "$room/out") -eq 1 ]
+    tr -d , <"$room/out" | grep -qE "^it is the (only finding|first of $count findings)" && [ $(grep -cE '^  (it really happens|these presses really go wrong|no presses were found .*|no state meets the start rows: .*)$' "$room/out") -eq 1 ]
 }
 
 # A refusal for a word has the word's place: of the logic 4 times its number is the byte.

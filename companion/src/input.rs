@@ -13,11 +13,12 @@ pub struct Input {
     pub names: Option<Names>,
 }
 
-/// Is a file a text? Words that are a show are none: the fourth byte of a VAR word is 16 to 31. What begins as a text and is no UTF-8
-/// further on is one too, so that its fault can be named.
+/// Is a file a text? Words that are a show are none: the fourth byte of a VAR word is 16 to 31. What begins as a text, or with its byte order
+/// mark, and is no UTF-8 further on is one too, so that its fault can be named.
 fn is_text(bytes: &[u8]) -> bool {
     let control = |byte: &u8| *byte < b' ' && !b"\t\n\r".contains(byte);
-    let begins = bytes.first().is_some_and(u8::is_ascii);
+    let marked = bytes.starts_with("\u{FEFF}".as_bytes());
+    let begins = marked || bytes.first().is_some_and(u8::is_ascii);
     let whole = !bytes.is_empty() && std::str::from_utf8(bytes).is_ok();
     (begins || whole) && !bytes.iter().any(control)
 }
@@ -83,6 +84,8 @@ mod tests {
         assert!(refused("ü".as_bytes()).starts_with("line 1, column 1: `ü` has no meaning here"));
         let latin = b"variable x 0 to 1\n# B\xFChne\n";
         assert_eq!(refused(latin), "line 2, column 4: a byte that is no UTF-8");
+        let marked = b"\xEF\xBB\xBF# B\xFChne\n";
+        assert_eq!(refused(marked), "line 1, column 4: a byte that is no UTF-8");
         let long = [b"variable x 0 to 1\n#", vec![b'x'; BYTES].as_slice()].concat();
         assert!(of(long[..text::BYTES].to_vec()).is_ok());
         // The second line begins behind 18 bytes.

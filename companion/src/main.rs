@@ -1,5 +1,6 @@
 //! The companion, a program for people: `bulanevior COMMAND [--] [FILE]`. Whatever it says or draws of a show comes from the proved
-//! calls; it only puts it into words, and into places in a picture. A show comes as words or as text.
+//! calls, which it puts into words, and into places in a picture; where it works something out itself it says so. A show comes as words or as
+//! text.
 //!
 //! The exit status: 0 safe, or the file that was asked for; 1 findings; 3 the show is refused, cut or too long; 2 trouble, and there
 //! is no answer.

@@ -1,5 +1,5 @@
-//! A lemma that would rule a finding out, where one can be had: at the node of a run-off; or on the way to a forbidden combination, at the
-//! last press that can say something of one of its predicates.
+//! A lemma that would rule a finding out, where one can be had: that the show cannot start; at the node of a run-off; or on the way to a
+//! forbidden combination, at the last press that can say something of one of its predicates.
 use super::way::literals;
 use super::Told;
 use crate::lemmas::{lemma, touches};
@@ -16,12 +16,12 @@ fn sources(told: &Told, path: &[Step]) -> Result<Vec<(Source, Literals)>, String
     presses.chain([start]).collect()
 }
 
-/// A lemma that shows that a literal is not so, at the last source that touches its predicate or behind that.
-fn against(told: &Told, literal: (usize, bool), path: &[Step]) -> Result<Option<Lemma>, String> {
+/// A lemma that shows a goal about a predicate, at the last source that touches it or behind that.
+fn against(told: &Told, goal: Goal, p: usize, path: &[Step]) -> Result<Option<Lemma>, String> {
     let logic = &told.show.logic;
     for (source, known) in sources(told, path)? {
-        let found = lemma(logic, source, Goal::against(literal), known)?;
-        if found.is_some() || touches(logic, source, literal.0) {
+        let found = lemma(logic, source, goal, known)?;
+        if found.is_some() || touches(logic, source, p) {
             return Ok(found);
         }
     }
@@ -30,6 +30,10 @@ fn against(told: &Told, literal: (usize, bool), path: &[Step]) -> Result<Option<
 
 fn found(told: &Told, finding: Finding, path: &[Step]) -> Result<Option<Lemma>, String> {
     let logic = &told.show.logic;
+    let unstarted = lemma(logic, Source::Start, Goal::Never, Literals::default())?;
+    if unstarted.is_some() {
+        return Ok(unstarted);
+    }
     match finding {
         Finding::MayRunOff {
             node,
@@ -37,12 +41,13 @@ fn found(told: &Told, finding: Finding, path: &[Step]) -> Result<Option<Lemma>, 
             variable,
             end,
         } => {
-            let goal = Goal::keeps(variable, end);
+            let goal = Goal::kept(variable, end);
             lemma(logic, Source::Action(action), goal, literals(told, node)?)
         }
         Finding::MayForbid { combination, .. } => {
-            for literal in logic.forbidden[combination].each() {
-                if let Some(lemma) = against(told, literal, path)? {
+            for (p, holds) in logic.forbidden[combination].each() {
+                let goal = Goal::literal(p, !holds);
+                if let Some(lemma) = against(told, goal, p, path)? {
                     return Ok(Some(lemma));
                 }
             }

@@ -10,8 +10,8 @@
 //! | `replay` | presses by the proved Step, from a start state |
 //! | `unaccepted` | the lemmas that are not accepted, and by how much |
 //!
-//! Verdict, finding, graph, path, steps and whether a lemma is accepted come from the proved calls. What the companion works out
-//! itself stands under a line that says so.
+//! Verdict, finding, graph, path, steps, what is so at a state and whether a lemma is accepted come from the proved calls. What the companion
+//! works out itself stands under a line that says so.
 
 mod hunt;
 mod missing;
@@ -32,7 +32,7 @@ use crate::show::model::Show;
 use crate::show::names::Names;
 use crate::show::reading;
 use crate::verdict::{self, mismatch, path, presses, safe, sentence, Answer, Judged, Step};
-use bulanevior::Finding;
+use bulanevior::{End, Finding};
 
 /// The most presses that are told one by one; of more, the first and the last of them.
 const TOLD: usize = 24;
@@ -58,13 +58,14 @@ impl Told<'_> {
         }
     }
 
-    /// "level 5, house 0"
-    fn state<T: Into<i64> + Copy>(&self, state: &[T]) -> String {
-        let values = self.names.variables.iter().zip(state);
-        let said: Vec<String> = values
-            .map(|(name, &value)| format!("{name} {}", value.into()))
-            .collect();
-        said.join(", ")
+    /// "level below 0"
+    fn past(&self, variable: usize, end: End) -> String {
+        let range = self.show.logic.ranges[variable];
+        let (way, past) = match end {
+            End::Low => ("below", range.low),
+            End::High => ("above", range.high),
+        };
+        format!("{} {way} {past}", self.names.variables[variable])
     }
 }
 
@@ -141,7 +142,8 @@ fn count(told: &Told) -> Result<String, String> {
 /// Lines with the middle of them left out where there are too many: pieces of lines, each told whole or not at all.
 fn shortened(pieces: Vec<Vec<String>>) -> Vec<String> {
     let left_out = pieces.len().saturating_sub(TOLD);
-    let note = vec![format!("  .. {left_out} presses more ..")];
+    let s = if left_out == 1 { "" } else { "es" };
+    let note = vec![format!("  .. {left_out} press{s} more ..")];
     let (first, rest) = pieces.split_at(pieces.len().min(TOLD / 2));
     match left_out {
         0 => pieces.concat(),

@@ -1,9 +1,16 @@
 //! Presses by the proved Step, from a start state that the companion finds: does a finding really happen?
-use super::hunt::{self, forbidden, Wrong};
+use super::hunt::{self, Wrong};
 use super::walk::{Reach, Walk};
 use super::{shortened, Told, OWN};
+use crate::lemmas::{lemma, NO_START};
+use crate::show::model::{Goal, Literals, Logic, Source};
+use crate::show::rows::{Range, Row};
 use crate::verdict::{mismatch, Step};
 use bulanevior::{Finding, Step as Pressed};
+
+/// Behind presses that walk the path to the finding, and behind others.
+const HAPPENS: &str = "  it really happens";
+const OTHERS: &str = "  these presses really go wrong";
 
 /// What happens to a start state on a path to a finding, and whether something really goes wrong.
 pub fn lines(told: &Told, finding: Finding, path: &[Step]) -> Result<(Vec<String>, bool), String> {
@@ -16,8 +23,11 @@ pub fn lines(told: &Told, finding: Finding, path: &[Step]) -> Result<(Vec<String
                 Finding::MayForbid { combination, .. } => Wrong::Forbidden(combination),
                 Finding::MayRunOff { action, .. } => Wrong::RunsOff(action),
             };
-            return Ok((replayed(told, &start, &presses, wrong)?, true));
+            let mut lines = replayed(told, &start, &presses, wrong)?;
+            lines.push(HAPPENS.to_string());
+            return Ok((lines, true));
         }
+        Reach::Until(0) => return Ok((vec![OWN.to_string(), format!("  {NO_START}")], false)),
         Reach::Until(stage) => Some(stage),
         Reach::Unknown => None,
     };
@@ -26,9 +36,10 @@ pub fn lines(told: &Told, finding: Finding, path: &[Step]) -> Result<(Vec<String
     let fault = hunt::hunt(logic);
     match &fault {
         Some(fault) => {
-            lines.push("  but other presses go wrong".to_string());
+            lines.push("  but there are presses that go wrong".to_string());
             lines.push(String::new());
             lines.extend(replayed(told, &fault.start, &fault.presses, fault.wrong)?);
+            lines.push(OTHERS.to_string());
         }
         None => {
             let none =
@@ -39,15 +50,17 @@ pub fn lines(told: &Told, finding: Finding, path: &[Step]) -> Result<(Vec<String
     Ok((lines, fault.is_some()))
 }
 
-/// Why no start state walks the path to the finding.
+/// Why no start state walks the path to the finding; there are start states.
 fn unwalked(told: &Told, finding: Finding, path: &[Step], stage: Option<usize>) -> String {
     let there = match finding {
-        Finding::MayForbid { .. } => "meets the combination there",
-        Finding::MayRunOff { .. } => "runs off there",
+        Finding::MayForbid { .. } => "meets the combination there".to_string(),
+        Finding::MayRunOff { variable, end, .. } => {
+            let past = told.past(variable, end);
+            format!("takes {past} there")
+        }
     };
     match stage {
         None => format!("no start state was found that walks this way and {there}"),
-        Some(0) => "no state meets the start rows".to_string(),
         Some(k) if k <= path.len() => {
             let action = told.action(path[k - 1].action);
             format!("no start state walks this way, it is one in the graph only: none takes press {k}, {action}")
@@ -66,12 +79,45 @@ fn pressed(
 ) -> Result<(String, Pressed), String> {
     let answer = bulanevior::step(&told.judged.logic, action, state).map_err(mismatch)?;
     let does = match answer {
-        Pressed::Moved => format!("moves to {}", told.state(state)),
+        Pressed::Moved => format!("moves to {}", told.names.state(state)),
         Pressed::NotEnabled(near) => format!("is not enabled: {near}"),
-        Pressed::RunsOff(v) => format!("runs {} off its range", told.names.variables[v]),
+        Pressed::RunsOff(v) => ran_off(told, action, v, state),
     };
     let line = format!("  press {number}: {} {does}", told.action(action));
     Ok((line, answer))
+}
+
+/// An action runs a variable off its range. Step does not say to what.
+fn ran_off(told: &Told, action: usize, v: usize, state: &[i32]) -> String {
+    let values: Vec<i64> = state.iter().map(|&x| x.into()).collect();
+    let new = told.show.logic.actions[action]
+        .sets
+        .iter()
+        .find(|set| set.0 == v);
+    let to = new.map_or_else(String::new, |(_, row)| {
+        format!(", to {} (worked out by the companion)", row.value(&values))
+    });
+    format!("runs {} off its range{to}", told.names.variables[v])
+}
+
+/// That literals of these predicates are so at a state, or the trouble. The proved Ask says it: over ranges that are that state alone, each is
+/// a lemma of the start.
+fn so_at(state: &[i32], predicates: &[Row], literals: Literals) -> Result<(), String> {
+    let only = |&x: &i32| Range {
+        low: x.into(),
+        high: x.into(),
+    };
+    let logic = Logic {
+        ranges: state.iter().map(only).collect(),
+        predicates: predicates.to_vec(),
+        ..Logic::default()
+    };
+    for (p, holds) in literals.each() {
+        let goal = Goal::literal(p, holds);
+        let shown = lemma(&logic, Source::Start, goal, Literals::default())?;
+        shown.ok_or_else(|| mismatch(format!("the companion's walk: {goal:?} at {state:?}")))?;
+    }
+    Ok(())
 }
 
 /// The presses from a start state, and what goes wrong behind them.
@@ -82,10 +128,13 @@ fn replayed(
     wrong: Wrong,
 ) -> Result<Vec<String>, String> {
     let mut state: Vec<i32> = start.iter().map(|&x| x as i32).collect();
+    let rows = &told.show.logic.start;
+    let all = (0..rows.len()).fold(Literals::default(), |all, row| all.with(row, true));
+    so_at(&state, rows, all)?;
     let mut lines = vec![
         "replayed by the proved Step, from a start state that the companion found:".to_string(),
     ];
-    lines.push(format!("  {}", told.state(&state)));
+    lines.push(format!("  {}", told.names.state(&state)));
     let mut moves = Vec::new();
     for (number, &action) in (1..).zip(presses) {
         let (line, answer) = pressed(told, number, action, &mut state)?;
@@ -96,23 +145,20 @@ fn replayed(
     }
     lines.extend(shortened(moves));
     lines.push(ended(told, presses.len(), &mut state, wrong)?);
-    lines.push("  it really happens".to_string());
     Ok(lines)
 }
 
-/// What goes wrong at the end: an action runs off, or the state is forbidden, which is read off its values.
+/// What goes wrong at the end: an action runs off, or the state is forbidden.
 fn ended(told: &Told, presses: usize, state: &mut [i32], wrong: Wrong) -> Result<String, String> {
-    let values: Vec<i64> = state.iter().map(|&x| x.into()).collect();
+    let logic = &told.show.logic;
     match wrong {
         Wrong::RunsOff(action) => match pressed(told, presses + 1, action, state)? {
             (line, Pressed::RunsOff(_)) => Ok(line),
             (line, _) => Err(mismatch(format!("the companion's walk:{line}"))),
         },
-        Wrong::Forbidden(_) => match forbidden(&told.show.logic, &values) {
-            Some(k) => Ok(format!("  this state meets forbidden combination {k}")),
-            None => Err(mismatch(
-                "the companion's walk ends in a state that is allowed",
-            )),
-        },
+        Wrong::Forbidden(k) => {
+            so_at(state, &logic.predicates, logic.forbidden[k])?;
+            Ok(format!("  this state meets forbidden combination {k}"))
+        }
     }
 }

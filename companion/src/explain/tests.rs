@@ -1,6 +1,6 @@
 //! What is said of shows whose findings are worked out by hand, in the comments of their texts.
 use super::run;
-use crate::input::Input;
+use crate::input::{self, Input};
 use crate::output::Status;
 
 fn said(bytes: &[u8]) -> (String, Status) {
@@ -10,6 +10,11 @@ fn said(bytes: &[u8]) -> (String, Status) {
     };
     let said = run(&input).unwrap();
     (said.lines.collect::<Vec<_>>().join("\n"), said.status)
+}
+
+fn said_of(text: &str) -> String {
+    let input = input::of(text.as_bytes().to_vec()).unwrap();
+    run(&input).unwrap().lines.collect::<Vec<_>>().join("\n")
 }
 
 const STANDS: &str = "v0 stands for variable 0, p0 for predicate 0, a0 for action 0, and so on";
@@ -60,11 +65,11 @@ the way there in the graph:
 
 replayed by the proved Step, from a start state that the companion found:
   v0 5
-  press 1: action 0 runs v0 off its range
+  press 1: action 0 runs v0 off its range, to -5 (worked out by the companion)
   it really happens
 
 lemmas: 1 of 2 accepted
-not accepted, and by how much, worked out by the companion, not proved:
+the others are not; by how much, and why, is worked out by the companion, not proved:
   number 0: lemma a0 keeps v0 low by goal
     its sum reaches 9, and has to stay below 0
     it is false: at v0 0"
@@ -95,15 +100,87 @@ lemmas: 23 of 23 accepted";
 fn a_finding_that_happens_by_other_presses() {
     let (text, _) = said(include_bytes!("../../../shows/bump.words"));
     for line in [
-        "  start states walk this way, but none of them runs off there",
-        "  but other presses go wrong",
+        "  start states walk this way, but none of them takes v0 above 1000 there",
+        "  but there are presses that go wrong",
         "  press 1: action 0 moves to v0 0, v1 1",
         "  .. 177 presses more ..",
         "  press 201: action 1 moves to v0 1000, v1 1",
-        "  press 202: action 1 runs v0 off its range",
+        "  press 202: action 1 runs v0 off its range, to 1005 (worked out by the companion)",
+        "  these presses really go wrong",
     ] {
         assert!(text.lines().any(|said| said == line), "{line}: {text}");
     }
+}
+
+/// Up to 3, and then one more: not below 0, which is the finding.
+#[test]
+fn other_presses_are_not_the_finding() {
+    let text = said_of(
+        "variable level 0 to 3
+start level = 0
+action up
+    level := level + 1",
+    );
+    for line in [
+        "action 0 may take variable 0 below its low end at node 0; actions: none",
+        "  no start state takes level below 0 there",
+        "  but there are presses that go wrong",
+        "  press 4: action 0 (up) runs level off its range, to 4 (worked out by the companion)",
+        "  these presses really go wrong",
+    ] {
+        assert!(text.lines().any(|said| said == line), "{line}: {text}");
+    }
+    assert!(!text.contains("it really happens"), "{text}");
+    // From 3 the press runs off at once, at the other end.
+    let text = said_of("variable level 0 to 3\nstart level = 3\naction up\n    level := level + 1");
+    assert!(text.contains("  no start state takes level below 0 there\n"));
+    assert!(text.contains(
+        "  press 1: action 0 (up) runs level off its range, to 4 (worked out by the companion)\n"
+    ));
+}
+
+/// At least 5 and at most 3: nothing goes wrong.
+#[test]
+fn a_show_that_cannot_start() {
+    let text = said_of(
+        "variable level 0 to 9
+start level >= 5 and level <= 3
+action up
+    level := level + 1",
+    );
+    let expected = "worked out by the companion, not proved:
+  no state meets the start rows: the show cannot start
+
+a lemma against this finding, found by the companion and accepted by the proved Ask:
+  lemma start never by row 0, row 1
+
+lemmas: 0 of 0 accepted";
+    assert!(text.ends_with(expected), "{text}");
+}
+
+/// x + y is even and x - y odd at the start: there is no such state, and halving ranges does not come to see it. So nothing is said of states
+/// that walk the way, though none of them could meet the combination.
+#[test]
+fn a_search_that_is_given_up() {
+    let text = said_of(
+        "variable x 0 to 8000
+variable y 0 to 8000
+variable z 0 to 8000
+variable w -8000 to 8000
+variable k 0 to 1
+start x + y - 2 z = 0 and x - y - 2 w = 1 and k <= 0
+predicate far: x >= 8001
+predicate on: k >= 1
+action press
+    k := 1
+forbid far and on
+lemma start makes not on by goal, row 4
+lemma press makes on by goal
+lemma press keeps k low by goal
+lemma press keeps k high by goal",
+    );
+    let none = "no start state was found that walks this way and meets the combination there";
+    assert!(text.contains(none), "{text}");
 }
 
 #[test]

@@ -21,7 +21,9 @@ pub fn lines(told: &Told) -> Result<Vec<String>, String> {
     let all = told.show.lemmas.len();
     let mut lines = vec![format!("lemmas: {} of {all} accepted", all - others.len())];
     if !others.is_empty() {
-        lines.push(format!("not accepted, and by how much, {OWN}"));
+        lines.push(format!(
+            "the others are not; by how much, and why, is {OWN}"
+        ));
     }
     for (number, lemma) in others {
         lines.extend(told_of(told, number, lemma)?);
@@ -52,7 +54,7 @@ fn mended(told: &Told, lemma: &Lemma) -> Result<String, String> {
     }
     let rows = logic.rows(source, goal, premises);
     Ok(match solve::state(&rows, &logic.ranges) {
-        Found::State(state) => format!("it is false: at {}", told.state(&state)),
+        Found::State(state) => format!("it is false: at {}", told.names.state(&state)),
         Found::None => "it is true, but no multipliers were found that show it".to_string(),
         Found::Unknown => "no multipliers were found that show it".to_string(),
     })

@@ -15,7 +15,7 @@ pub struct Walk {
 pub enum Reach {
     /// This one walks it, and what was found happens there.
     Whole(Vec<i64>),
-    /// No state passes this stage, and none was found to stop before it: 0 is the start, k press k, the last the finding.
+    /// No state passes this stage, and one passes those before it: 0 is the start, k press k, the last the finding.
     Until(usize),
     /// The search was given up.
     Unknown,
@@ -35,7 +35,7 @@ fn ending(logic: &Logic, finding: Finding) -> Vec<Row> {
             end,
             ..
         } => {
-            let goal = Goal::keeps(variable, end);
+            let goal = Goal::kept(variable, end);
             let action = &logic.actions[action];
             let off = logic
                 .goal(goal)
@@ -92,7 +92,12 @@ impl Walk {
                 // What no state passes, none passes with more rows: the first such stage, by halving.
                 let all: Vec<usize> = (0..self.stages.len()).collect();
                 let passes = |stage: &usize| self.passing(logic, stage + 1) != Found::None;
-                Reach::Until(all.partition_point(passes))
+                let stage = all.partition_point(passes);
+                // Whether one passes the stages before it may be what the search was given up over.
+                match stage > 0 && self.passing(logic, stage) == Found::Unknown {
+                    true => Reach::Unknown,
+                    false => Reach::Until(stage),
+                }
             }
         }
     }

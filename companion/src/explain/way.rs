@@ -1,6 +1,5 @@
 //! The presses that lead to a finding, each with its guard and its assignments: the path in the graph.
 use super::{shortened, Told};
-use crate::show::fault::thousands;
 use crate::show::model::{Goal, Literals, Source};
 use crate::text;
 use crate::verdict::{mismatch, Step};
@@ -83,16 +82,10 @@ fn met(told: &Told, combination: usize) -> Vec<String> {
 
 /// An action that may pass an end, with its guard and assignments, and the lemma that would rule it out.
 fn ran_off(told: &Told, action: usize, variable: usize, end: End) -> Vec<String> {
-    let range = told.show.logic.ranges[variable];
-    let (way, past) = match end {
-        End::Low => ("below", range.low),
-        End::High => ("above", range.high),
-    };
-    let (name, past) = (&told.names.variables[variable], thousands(past));
-    let press = told.action(action);
-    let mut lines = vec![format!("  there {press} may take {name} {way} {past}:")];
+    let (press, past) = (told.action(action), told.past(variable, end));
+    let mut lines = vec![format!("  there {press} may take {past}:")];
     lines.extend(rows(told, action));
-    let goal = Goal::keeps(variable, end);
+    let goal = Goal::kept(variable, end);
     let wanted = text::lemma_head(Source::Action(action), goal, told.names);
     lines.push(format!(
         "    no accepted lemma that applies there shows: {wanted}"

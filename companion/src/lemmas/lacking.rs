@@ -114,9 +114,9 @@ impl Graph<'_> {
             if open.is_empty() {
                 lacks.push(self.lack((source, node), Goal::Never, Some(combination)));
             }
-            lacks.extend(open.into_iter().map(|literal| {
-                let place = self.touched((source, node), literal.0);
-                self.lack(place, Goal::against(literal), Some(combination))
+            lacks.extend(open.into_iter().map(|(p, holds)| {
+                let goal = Goal::literal(p, !holds);
+                self.lack(self.touched((source, node), p), goal, Some(combination))
             }));
         }
         lacks
@@ -149,7 +149,7 @@ impl Graph<'_> {
                 variable,
                 end,
             } => {
-                let goal = Goal::keeps(variable, end);
+                let goal = Goal::kept(variable, end);
                 vec![self.lack((Source::Action(action), Some(node)), goal, None)]
             }
         }
@@ -227,10 +227,8 @@ impl Graph<'_> {
         let rows = self.logic.rows(lack.source, lack.goal, lack.known);
         match state(&rows, &self.logic.ranges) {
             Found::State(state) => {
-                let values = names.variables.iter().zip(&state);
-                let values: Vec<String> = values.map(|(v, x)| format!("{v} {x}")).collect();
                 let after = self.after(lack, &state, names);
-                format!("false at {}{after}", values.join(", "))
+                format!("false at {}{after}", names.state(&state))
             }
             Found::None if self.showable(&lack) => UNFOLLOWED.to_string(),
             Found::None => BETWEEN.to_string(),

@@ -39,7 +39,7 @@ impl fmt::Display for Place {
             Place::Lemma(k) => write!(f, "lemma {k}"),
             Place::NegatedGoal { lemma } => write!(f, "the negated goal of lemma {lemma}"),
             Place::Premise { lemma, predicate } => {
-                write!(f, "premise {predicate} of lemma {lemma}")
+                write!(f, "the premise on predicate {predicate} of lemma {lemma}")
             }
             Place::SourceRow { lemma, row } => {
                 write!(f, "row {row} of the source of lemma {lemma}")

@@ -15,8 +15,8 @@ fn source(number: usize, logic: &Logic) -> Result<Source, String> {
         START => Ok(Source::Start),
         k if k < actions => Ok(Source::Action(k)),
         k => {
-            let known = format!("and the logic has {actions} actions, counted from 0");
-            Err(format!("source {k} is neither an action, {known}, nor 255"))
+            let known = format!("of which the logic has {actions}, counted from 0");
+            Err(format!("source {k} is neither 255 nor an action, {known}"))
         }
     }
 }

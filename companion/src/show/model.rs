@@ -109,19 +109,19 @@ pub enum Goal {
 }
 
 impl Goal {
-    /// That a variable keeps to an end of its range.
-    pub fn keeps(variable: usize, end: End) -> Goal {
-        match end {
-            End::Low => Goal::Low(variable),
-            End::High => Goal::High(variable),
+    /// That a predicate holds, or fails, afterwards.
+    pub fn literal(predicate: usize, holds: bool) -> Goal {
+        match holds {
+            true => Goal::Holds(predicate),
+            false => Goal::Fails(predicate),
         }
     }
 
-    /// That a literal is not so.
-    pub fn against((predicate, holds): (usize, bool)) -> Goal {
-        match holds {
-            true => Goal::Fails(predicate),
-            false => Goal::Holds(predicate),
+    /// That an end of a variable is kept to.
+    pub fn kept(variable: usize, end: End) -> Goal {
+        match end {
+            End::Low => Goal::Low(variable),
+            End::High => Goal::High(variable),
         }
     }
 }

@@ -18,4 +18,13 @@ impl Names {
             actions: all('a', logic.actions.len()),
         }
     }
+
+    /// "level 5, house 0"
+    pub fn state<T: Into<i64> + Copy>(&self, state: &[T]) -> String {
+        let values = self.variables.iter().zip(state);
+        let said: Vec<String> = values
+            .map(|(name, &value)| format!("{name} {}", value.into()))
+            .collect();
+        said.join(", ")
+    }
 }

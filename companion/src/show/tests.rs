@@ -236,14 +236,14 @@ fn sentences() {
     );
     let lemma = |words: &[u32]| reading::show(&LOGIC, words).unwrap_err().to_string();
     for (words, sentence) in [
-        (&[0x9011_0000][..], "word 0 of the lemmas, byte 76: LEMMA of lemma 0: source 1 is neither an action, and the logic has 1 actions, counted from 0, nor 255"),
+        (&[0x9011_0000][..], "word 0 of the lemmas, byte 76: LEMMA of lemma 0: source 1 is neither 255 nor an action, of which the logic has 1, counted from 0"),
         (&[0x9005_0000], "word 0 of the lemmas, byte 76: LEMMA of lemma 0: goal 5, allowed are 0 to 4"),
         (&[0x9000_0001], "word 0 of the lemmas, byte 76: LEMMA of lemma 0: goal 0 with index 1, which has to be 0"),
         (&[0x9001_0002], "word 0 of the lemmas, byte 76: LEMMA of lemma 0: predicate 2, and the logic has 2, counted from 0"),
         (&[0x9003_0000], "word 0 of the lemmas, byte 76: LEMMA of lemma 0: its source does not set variable 0"),
         (&[0x9FF3_0000], "word 0 of the lemmas, byte 76: LEMMA of lemma 0: goals 3 and 4 speak of an action, and the source is the start"),
         (&[0x9FF0_0000, 0x8000_0001], "word 1 of the lemmas, byte 80: SETS of lemma 0: a lemma of the start has no premises"),
-        (&[0x9000_0000, 0x8000_0001, 0xA001_0000], "word 2 of the lemmas, byte 84: MULT of premise 0 of lemma 0: multiplier 65,536, allowed are 0 to 65,535"),
+        (&[0x9000_0000, 0x8000_0001, 0xA001_0000], "word 2 of the lemmas, byte 84: MULT of the premise on predicate 0 of lemma 0: multiplier 65,536, allowed are 0 to 65,535"),
         (&[0x9000_0000, 0x8000_0001, 0xA000_0001], "word 3 of the lemmas, byte 88: the list ends, where the MULT of row 0 of the source of lemma 0 is due"),
         (&[0xA000_0001], "word 0 of the lemmas, byte 76: MULT (A0000001), where the LEMMA of lemma 0 or the end is due"),
     ] {

@@ -10,8 +10,9 @@ pub struct Fault {
 }
 
 impl Fault {
-    /// A fault just behind a text.
+    /// A fault just behind a text, whose byte order mark does not count.
     pub fn behind(text: &str, message: &str) -> Fault {
+        let text = text.strip_prefix('\u{FEFF}').unwrap_or(text);
         let last = text.rsplit('\n').next().unwrap_or("");
         Fault {
             line: text.matches('\n').count() + 1,

@@ -60,10 +60,8 @@ fn goal(cursor: &mut Cursor, names: &Names) -> Result<Goal, Fault> {
         return Ok(Goal::Never);
     }
     if cursor.take("makes") {
-        return match literal(cursor, names)? {
-            (p, true) => Ok(Goal::Holds(p)),
-            (p, false) => Ok(Goal::Fails(p)),
-        };
+        let (p, holds) = literal(cursor, names)?;
+        return Ok(Goal::literal(p, holds));
     }
     if !cursor.take("keeps") {
         return Err(cursor.expected("`never`, `makes` or `keeps`"));

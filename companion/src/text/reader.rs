@@ -148,7 +148,7 @@ impl Reader {
         what: &str,
         column: usize,
     ) -> Result<&mut Action, Fault> {
-        let why = format!("{what} belongs to the action above it, and there is none");
+        let why = format!("{what} belongs to the action right above it, and there is none");
         match (self.open, self.show.logic.actions.last_mut()) {
             (true, Some(action)) => Ok(action),
             _ => Err(cursor.fault(column, why)),

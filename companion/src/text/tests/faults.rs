@@ -235,11 +235,13 @@ fn actions() {
         ("when level >= 0", "`when`"),
         ("level := 0", "an assignment"),
     ] {
-        let expected =
-            format!("line 9, column 1: {what} belongs to the action above it, and there is none");
+        let expected = format!(
+            "line 9, column 1: {what} belongs to the action right above it, and there is none"
+        );
         assert_eq!(fault(&format!("{BEFORE}forbid up\n{line}")), expected);
-        let expected =
-            format!("line 2, column 2: {what} belongs to the action above it, and there is none");
+        let expected = format!(
+            "line 2, column 2: {what} belongs to the action right above it, and there is none"
+        );
         assert_eq!(fault(&format!("variable level 0 to 1\n {line}")), expected);
     }
 }
