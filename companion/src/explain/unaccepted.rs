@@ -8,6 +8,9 @@ use crate::text;
 use crate::verdict::mismatch;
 use bulanevior::{ask, Ask};
 
+/// The most lemmas for which a reason is looked for: a search may take a while, and a list may have 512.
+const REASONS: usize = 64;
+
 /// How many lemmas are accepted, and each that is not.
 pub fn lines(told: &Told) -> Result<Vec<String>, String> {
     let judged = told.judged;
@@ -25,8 +28,11 @@ pub fn lines(told: &Told) -> Result<Vec<String>, String> {
             "the others are not; by how much, and why, is {OWN}"
         ));
     }
-    for (number, lemma) in others {
+    for (count, (number, lemma)) in others.into_iter().enumerate() {
         lines.extend(told_of(told, number, lemma)?);
+        if count < REASONS {
+            lines.push(format!("    {}", mended(told, lemma)?));
+        }
     }
     Ok(lines)
 }
@@ -41,7 +47,6 @@ fn told_of(told: &Told, number: usize, lemma: &Lemma) -> Result<Vec<String>, Str
     Ok(vec![
         format!("  number {number}: {}", text::lemma(lemma, told.names)),
         format!("    its sum reaches {reaches}, and has to stay below 0"),
-        format!("    {}", mended(told, lemma)?),
     ])
 }
 
