@@ -5,28 +5,21 @@ use crate::show::model::{Logic, Show};
 use crate::show::names::Names;
 use crate::show::reading;
 use crate::text;
-use crate::verdict::mismatch;
-use bulanevior::*;
+use crate::verdict::{self, mismatch, Answer};
+use bulanevior::Refusal;
 
 /// The show that the bytes of a file are, or in a sentence why they are none; or the trouble. Whether they are one the proved calls
 /// say.
 fn plain(bytes: &[u8]) -> Result<Result<Show, String>, String> {
-    let mut words = vec![0; SHOW_WORDS];
-    let mut graph = vec![0; GRAPH_WORDS];
-    let mut path = vec![0; PATH_WORDS];
-    let found = match show(bytes, &mut words, &mut graph, &mut path) {
-        Ok(found) => found,
-        Err(why @ (NoShow::TooLong | NoShow::OddBytes)) => return Ok(Err(why.to_string())),
-        Err(why) => return Err(why.to_string()),
+    let (logic, lemmas) = match verdict::judge(bytes)? {
+        Answer::Judged(show) => (show.logic, show.lemmas),
+        Answer::Refused(why) => match why.refusal {
+            // A graph that is too large, or a sum, is no fault of a word.
+            Some((Refusal::Nodes | Refusal::Sum(_), logic, lemmas)) => (logic, lemmas),
+            _ => return Ok(Err(why.sentence)),
+        },
     };
-    match found.answer {
-        Err(why @ Refusal::Mismatch(_)) => Err(why.to_string()),
-        // A graph that is too large, or a sum, is no fault of a word.
-        Ok(_) | Err(Refusal::Nodes | Refusal::Sum(_)) => reading::show(found.logic, found.lemmas)
-            .map(Ok)
-            .map_err(mismatch),
-        Err(why) => Ok(Err(format!("refused: {why}"))),
-    }
+    reading::show(&logic, &lemmas).map(Ok).map_err(mismatch)
 }
 
 /// The show that a command got. No text is one that the proved calls refuse.

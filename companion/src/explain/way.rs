@@ -3,13 +3,12 @@ use super::{shortened, Told};
 use crate::show::model::{Goal, Literals, Source};
 use crate::text;
 use crate::verdict::{mismatch, Step};
-use bulanevior::{known, End, Finding};
+use bulanevior::{End, Finding};
 
 /// What is known at a node, by the graph list.
 pub fn literals(told: &Told, node: usize) -> Result<Literals, String> {
-    let (holds, fails) = known(&told.judged.graph, told.judged.actions, node)
-        .ok_or_else(|| mismatch(format!("no node {node}")))?;
-    Ok(Literals { holds, fails })
+    let literals = Literals::at(&told.judged.graph, told.judged.actions, node);
+    literals.ok_or_else(|| mismatch(format!("no node {node}")))
 }
 
 /// "node 3: front_on and not house_on"

@@ -1,5 +1,5 @@
 //! What the proved calls say of a list of lemmas for a logic.
-use crate::show::model::{Lemma, Logic, LEMMAS};
+use crate::show::model::{lemma_words, Lemma, Logic, LEMMAS};
 use crate::verdict::mismatch;
 use bulanevior::*;
 
@@ -7,12 +7,6 @@ pub struct Checker {
     words: Vec<u32>,
     pub graph: Vec<u32>,
     path: Vec<u32>,
-}
-
-fn words(lemmas: &[Lemma]) -> Vec<u32> {
-    let mut words = Vec::new();
-    lemmas.iter().for_each(|lemma| lemma.words(&mut words));
-    words
 }
 
 impl Checker {
@@ -29,7 +23,12 @@ impl Checker {
         if lemmas.len() > LEMMAS {
             return Ok(None);
         }
-        match judge(&self.words, &words(lemmas), &mut self.graph, &mut self.path) {
+        match judge(
+            &self.words,
+            &lemma_words(lemmas),
+            &mut self.graph,
+            &mut self.path,
+        ) {
             Ok(judgement) => Ok(Some(judgement.verdict == Verdict::Safe)),
             Err(Refusal::Nodes) => Ok(None),
             Err(why) => Err(mismatch(format!("lemmas that were found: {why}"))),
@@ -39,14 +38,20 @@ impl Checker {
     /// All findings, with the graph in its list; or the trouble.
     pub fn findings(&mut self, lemmas: &[Lemma]) -> Result<Vec<Finding>, String> {
         let mut list = vec![0; MOST_FINDINGS];
-        findings(&self.words, &words(lemmas), &mut self.graph, &mut list).map_err(mismatch)?;
+        findings(
+            &self.words,
+            &lemma_words(lemmas),
+            &mut self.graph,
+            &mut list,
+        )
+        .map_err(mismatch)?;
         Ok(listed(&list).collect())
     }
 
     /// That every lemma is accepted, or the trouble.
     pub fn accepts(&self, lemmas: &[Lemma]) -> Result<(), String> {
         lemmas.iter().try_for_each(|lemma| {
-            match ask(&self.words, &words(std::slice::from_ref(lemma)), 0) {
+            match ask(&self.words, &lemma_words(std::slice::from_ref(lemma)), 0) {
                 Ok(Ask::Accepted) => Ok(()),
                 other => Err(mismatch(format!("a lemma that was found: {other:?}"))),
             }

@@ -89,8 +89,7 @@ impl Size {
 /// The proved call and the companion's exploration, each with its nodes and whether nothing may go wrong.
 fn both(logic: &Logic, lemmas: &[Lemma]) -> ((usize, bool), (usize, bool)) {
     let (mut graph, mut path) = (vec![0; GRAPH_WORDS], vec![0; PATH_WORDS]);
-    let mut words = Vec::new();
-    lemmas.iter().for_each(|lemma| lemma.words(&mut words));
+    let words = lemma_words(lemmas);
     let proved = judge(&logic.words(), &words, &mut graph, &mut path).unwrap();
     let mut listed = Listed::new(logic, lemmas);
     let own = explore(&mut listed, everything(logic), MOST_NODES);

@@ -36,8 +36,7 @@ pub struct Graph<'a> {
 
 impl Graph<'_> {
     fn known(&self, node: usize) -> Literals {
-        let (holds, fails) = known(self.list, self.logic.actions.len(), node).unwrap_or_default();
-        Literals { holds, fails }
+        Literals::at(self.list, self.logic.actions.len(), node).unwrap_or_default()
     }
 
     /// Where a node was first found: the source, and the node before it.

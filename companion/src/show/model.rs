@@ -1,6 +1,6 @@
 //! Logics and lemmas as plain values, the rows that a lemma is about, and their words.
 use super::rows::{Range, Row};
-use bulanevior::{raw, word, End};
+use bulanevior::{known, raw, word, End};
 
 /// The most start rows, guard rows or assignments of an action, and forbidden combinations, which are the same.
 pub const ROWS: usize = bulanevior::MOST_START_ROWS;
@@ -23,6 +23,12 @@ pub struct Literals {
 }
 
 impl Literals {
+    /// Those that are known at a node, by a graph list.
+    pub fn at(graph: &[u32], actions: usize, node: usize) -> Option<Literals> {
+        let (holds, fails) = known(graph, actions, node)?;
+        Some(Literals { holds, fails })
+    }
+
     /// Those of a SETS word.
     pub fn of(sets: u32) -> Literals {
         Literals {
@@ -217,7 +223,7 @@ impl Logic {
 }
 
 impl Lemma {
-    pub fn words(&self, words: &mut Vec<u32>) {
+    fn words(&self, words: &mut Vec<u32>) {
         let source = match self.source {
             Source::Start => raw::BNV_START as usize,
             Source::Action(k) => k,
@@ -244,17 +250,18 @@ impl Lemma {
     }
 }
 
-impl Show {
-    /// The words of its lemmas.
-    pub fn lemma_words(&self) -> Vec<u32> {
-        let mut words = Vec::new();
-        self.lemmas.iter().for_each(|lemma| lemma.words(&mut words));
-        words
-    }
+/// The words of a list of lemmas.
+pub fn lemma_words(lemmas: &[Lemma]) -> Vec<u32> {
+    let mut words = Vec::new();
+    lemmas.iter().for_each(|lemma| lemma.words(&mut words));
+    words
+}
 
+impl Show {
     /// The bytes of its file: the words of the logic, then those of the lemmas, little-endian.
     pub fn bytes(&self) -> Vec<u8> {
-        let words = self.logic.words().into_iter().chain(self.lemma_words());
+        let words = self.logic.words().into_iter();
+        let words = words.chain(lemma_words(&self.lemmas));
         words.flat_map(u32::to_le_bytes).collect()
     }
 }

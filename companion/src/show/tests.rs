@@ -1,5 +1,6 @@
 //! The companion's reader beside the proved one: the same words are a show, and the same word is at fault with the same number.
 use super::fault::List;
+use super::model::lemma_words;
 use super::reading;
 use bulanevior::{ask, kind, raw, Refusal};
 use std::path::PathBuf;
@@ -52,7 +53,7 @@ fn same(name: &str, logic: &[u32], lemmas: &[u32]) -> bool {
         Ok(show) => {
             assert_eq!(expected, None, "{name}");
             assert_eq!(show.logic.words(), logic, "{name}");
-            assert_eq!(show.lemma_words(), lemmas, "{name}");
+            assert_eq!(lemma_words(&show.lemmas), lemmas, "{name}");
         }
         Err(fault) => {
             assert_eq!(Some((fault.number, fault.at)), expected, "{name}: {fault}");

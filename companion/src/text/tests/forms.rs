@@ -1,9 +1,10 @@
 //! Texts with every form that there is, and their words, by hand.
+use crate::show::model::lemma_words;
 use crate::text::read;
 
 fn words(text: &str) -> (Vec<u32>, Vec<u32>) {
     match read(text) {
-        Ok((show, _)) => (show.logic.words(), show.lemma_words()),
+        Ok((show, _)) => (show.logic.words(), lemma_words(&show.lemmas)),
         Err(fault) => panic!("{fault}"),
     }
 }

@@ -1,7 +1,7 @@
 //! What is written reads back as the same show: the stored ones, and shows at random.
 use super::generated::{longest, Random};
 use super::{stored, texts};
-use crate::show::model::Show;
+use crate::show::model::{lemma_words, Show};
 use crate::show::names::Names;
 use crate::show::reading;
 use crate::text::{read, write, BYTES};
@@ -60,7 +60,7 @@ fn stored_texts() {
 
 /// The proved readers count in the words of a show what the show has.
 fn counted(show: &Show) {
-    let (logic, lemmas) = (&show.logic, show.lemma_words());
+    let (logic, lemmas) = (&show.logic, lemma_words(&show.lemmas));
     let counts = Counts {
         variables: logic.ranges.len(),
         start_rows: logic.start.len(),
