@@ -15,7 +15,7 @@
  *  - A pointer with a length above zero points to that many elements, aligned to 4 bytes (bytes to any), that may be read and, where
  *    the list is not const, written. Until the call returns nobody else writes them, nor reads those of a list that is not const.
  *  - The lists of one call do not overlap.
- *  - 96 KiB of stack beside the lent lists. No call recurses, so its stack does not grow with its input; the bound is measured
+ *  - 64 KiB of stack beside the lent lists. No call recurses, so its stack does not grow with its input; the bound is measured
  *    (tests/calls.c) and not proved.
  *
  * What the caller gets, whatever stands in the lists and whatever the numbers are:
@@ -57,8 +57,8 @@ _Static_assert(sizeof(size_t) == 8, "64-bit numbers only");
  * bnv_version() == BNV_VERSION_NUMBER: header and library belong together. A library before 0.8.0 does not link with a caller of it.
  */
 
-#define BNV_VERSION "0.8.0"
-#define BNV_VERSION_NUMBER 8000u
+#define BNV_VERSION "0.8.1"
+#define BNV_VERSION_NUMBER 8001u
 
 uint32_t bnv_version(void);
 

@@ -17,7 +17,7 @@
     } while (0)
 
 #define LOGIC 16
-#define MOST_STACK 98304
+#define MOST_STACK 65536
 
 static const uint32_t fade[] = {
     0x100003E8, 0x40000000, 0x50000000, 0x60000011, 0x2FFFFFFB, 0x30000001, 0x70000000, 0x2FFFFFFB,
@@ -127,7 +127,7 @@ static void finding_fields(void)
 
 static void version(void)
 {
-    CHECK(bnv_version() == 8000 && bnv_version() == BNV_VERSION_NUMBER);
+    CHECK(bnv_version() == 8001 && bnv_version() == BNV_VERSION_NUMBER);
 }
 
 static void check(void)

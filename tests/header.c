@@ -9,7 +9,7 @@
 #define HOLDS(test) _Static_assert(test, #test)
 #endif
 
-HOLDS(sizeof(bnv_version()) == 4 && BNV_VERSION_NUMBER == 8000);
+HOLDS(sizeof(bnv_version()) == 4 && BNV_VERSION_NUMBER == 8001);
 HOLDS(sizeof(bnv_check(NULL, 0)) == sizeof(BnvCheck) && sizeof(BnvCheck) == 56);
 HOLDS(sizeof(bnv_action_part(NULL, 0, 0)) == sizeof(BnvPart) && sizeof(BnvPart) == 16);
 HOLDS(sizeof(bnv_step(NULL, 0, 0, NULL, 0)) == sizeof(BnvStep) && sizeof(BnvStep) == 32);

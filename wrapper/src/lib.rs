@@ -2,7 +2,7 @@
 //! out, nothing allocated, no `std`.
 //!
 //! A slice keeps what include/bulanevior.h asks of a list, so every function here is safe to call with anything.
-//! 96 KiB of stack beside the lent lists are enough.
+//! 64 KiB of stack beside the lent lists are enough.
 //!
 //! `Ok` comes from a number that is named in `raw`, and from no other. Any other number, 0 too, means that the library is
 //! of another version than this crate, or that its record was not filled: that is `Refusal::Mismatch`. Nothing panics.

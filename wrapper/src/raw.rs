@@ -3,7 +3,7 @@
 //! `Default`: a record comes from a call.
 
 /// The version, as a number: major times 1,000,000, minor times 1,000, and patch.
-pub const BNV_VERSION_NUMBER: u32 = 8000;
+pub const BNV_VERSION_NUMBER: u32 = 8001;
 
 /// A node's distance from node 0; zeroed words have this kind too.
 pub const BNV_DISTANCE: u32 = 0;

@@ -73,8 +73,8 @@ pub fn add_premises(t: Sum, preds: [Row; 14], n: usize, set: u32, words: &[u32])
 }
 
 // The first n rows more.
-pub fn add_rows(t: Sum, rows: [Row; 14], n: usize, words: &[u32]) -> Sum
-    requires { ⌜ (n ≤ 14) × (t .used + length (take n rows) ≤ length (now words)) ⌝ }
+pub fn add_rows(t: Sum, rows: [Row; 8], n: usize, words: &[u32]) -> Sum
+    requires { ⌜ (n ≤ 8) × (t .used + length (take n rows) ≤ length (now words)) ⌝ }
     requires { ⌜ Fine 28 (t .row) ⌝ }
     requires { ⌜ ((i : ℕ) → Read (getD rows i noRow)) ⌝ }
     ensures { λ out. ⌜ (out ≡ addRows (now (words .entry)) t (take n rows)) × Fine 42 (out .row) ⌝ }
@@ -97,12 +97,12 @@ pub fn lemma_sum(
     preds: [Row; 14],
     np: usize,
     set: u32,
-    rows: [Row; 14],
+    rows: [Row; 8],
     n: usize,
     words: &[u32],
     at: usize,
 ) -> Row
-    requires { ⌜ (np ≤ 14) × (n ≤ 14) × (at + length (lemmaRows goal q (take np preds) set (take n rows)) ≤ length (now words)) ⌝ }
+    requires { ⌜ (np ≤ 14) × (n ≤ 8) × (at + length (lemmaRows goal q (take np preds) set (take n rows)) ≤ length (now words)) ⌝ }
     requires { ⌜ After q ⌝ }
     requires { ⌜ ((i : ℕ) → Read (getD preds i noRow)) × ((i : ℕ) → Read (getD rows i noRow)) ⌝ }
     ensures { λ r. ⌜ (r ≡ combine (constRow (pos 0)) (map multOf (drop at (now (words .entry)))) (lemmaRows goal q (take np preds) set (take n rows)))

@@ -7,7 +7,7 @@ use native.Mathlib.Omega.{arith}
 use native.Mathlib.Nat.{not-suc-le-zero, le-of-suc-le-suc}
 use lib.IntN.{ℤ, pos}
 use lib.Signed.{ltZ}
-use lib.ListN.{length, getD, drop, replicate}
+use lib.ListN.{length, getD, drop}
 use lib.Seq.{sets}
 use borrow.Author.Tests.{le-leb, lt-leb}
 use Rattle.words.specs.declared.Refusal.{Refusal}
@@ -24,10 +24,10 @@ use Rattle.programs.specs.Images.{loaded}
 use Rattle.programs.specs.Places.{places}
 use Rattle.programs.specs.declared.Loaded.{Loaded}
 use Rattle.programs.specs.declared.Status.the-variants.{Ready, Failed}
-use Rattle.programs.proofs.Places.{item-at, stored-at, length-places}
+use Rattle.programs.proofs.Places.{item-at, stored-in, length-places}
 use Rattle.lemmas.specs.Lemmas.{Lemma, largestOf, accepted}
 use Rattle.lemmas.specs.LemmaGrammar.{lemma, readLemmas, encodeLemma, LemmaOk}
-use Rattle.lemmas.specs.Sources.{theProgram, programOf, Held, listed}
+use Rattle.lemmas.specs.Sources.{theProgram, programOf, Held, listed, ListedAs}
 use Rattle.lemmas.specs.declared.Listed.{Listed}
 use Rattle.lemmas.proofs.LemmaLaws.{lemma-codec, lemmas-accepted}
 use Rattle.lemmas.proofs.Sound.{accepted-true}
@@ -100,13 +100,14 @@ each-lemma p (l ∷ ls) zero good h = good .0
 each-lemma p (l ∷ ls) (suc k) good h = each-lemma p ls k (good .1) (le-of-suc-le-suc h)
 
 -- ---- the list, over a program that was read
-module _ (ws : List ℕ) (p : Program) {us : List ℕ} {i : ℕ} (q : read ws ≡ got p us i) (ok : WellFormed p) (lemmas : List ℕ) {y : Listed} (e : y ≡ listed (readLemmas p lemmas)) (k : ℕ) where
+module _ (ws : List ℕ) (p : Program) {us : List ℕ} {i : ℕ} (q : read ws ≡ got p us i) (ok : WellFormed p) (lemmas ns begins : List ℕ) (y : Listed)
+    (e : ListedAs (listed ns (readLemmas p lemmas)) y begins) (k : ℕ) where
   pub lemmas-refused : {r : Refusal} → y .status ≡ Failed r → readLemmas p lemmas ≡ refused r
   lemmas-refused {r} h = go (readLemmas p lemmas) refl
     where
       go : (m : Read (List Lemma)) → readLemmas p lemmas ≡ m → readLemmas p lemmas ≡ refused r
-      go (got ls vs j) t = failed-not-ready (sym (ap (λ (z : Listed). z .status) (rw t at e)) ∙ h)
-      go (refused s) t = let f : Failed s ≡ Failed r = sym (ap (λ (z : Listed). z .status) (rw t at e)) ∙ h in t ∙ cc f
+      go (got ls vs j) t = failed-not-ready (sym (rw t at e .0) ∙ h)
+      go (refused s) t = let f : Failed s ≡ Failed r = sym (rw t at e .0) ∙ h in t ∙ cc f
 
   pub list-refused : {r : Refusal} → y .status ≡ Failed r → Answers ws lemmas k (Refused r)
   list-refused h = (rw (q, lemmas-refused h) refl, refused-not-accepted)
@@ -117,7 +118,7 @@ module _ (ws : List ℕ) (p : Program) {us : List ℕ} {i : ℕ} (q : read ws �
     pub index : ℕ
     pub is : readLemmas p lemmas ≡ got list rest index
     pub counted : y .count ≡ length list
-    pub begin : y .«begin_at» ≡ sets (replicate 512 0) 0 (places encodeLemma 0 list)
+    pub begin : begins ≡ sets ns 0 (places encodeLemma 0 list)
 
   pub lemmas-read : y .status ≡ Ready → Lemmas-read
   lemmas-read h = go (readLemmas p lemmas) refl
@@ -125,8 +126,8 @@ module _ (ws : List ℕ) (p : Program) {us : List ℕ} {i : ℕ} (q : read ws �
       go : (m : Read (List Lemma)) → readLemmas p lemmas ≡ m → Lemmas-read
       go (got ls vs j) t =
           let f = rw t at e in
-          record { list = ls; rest = vs; index = j; is = t; counted = ap (λ (z : Listed). z .count) f; begin = ap (λ (z : Listed). z .«begin_at») f }
-      go (refused s) t = failed-not-ready (sym h ∙ ap (λ (z : Listed). z .status) (rw t at e))
+          record { list = ls; rest = vs; index = j; is = t; counted = f .1; begin = f .2 refl }
+      go (refused s) t = failed-not-ready (sym h ∙ rw t at e .0)
 
   module _ (l : Lemmas-read) where
     pub no-lemma : y .count ≤ k → Answers ws lemmas k (Refused (Absent k))
@@ -135,9 +136,9 @@ module _ (ws : List ℕ) (p : Program) {us : List ℕ} {i : ℕ} (q : read ws �
     pub good : Few 512 (LemmaOk p) (l .list)
     good = lemmas-accepted p ok lemmas (l .list) (l .rest) (l .index) (l .is) .good
 
-    module _ (h : k < y .count) where
+    module _ (wide : 512 ≤ length ns) (h : k < y .count) where
       abbrev place : ℕ
-      place = getD (y .«begin_at») k 0
+      place = getD begins k 0
 
       known : k < length (l .list)
       known = omega (arith, l .counted)
@@ -148,7 +149,7 @@ module _ (ws : List ℕ) (p : Program) {us : List ℕ} {i : ℕ} (q : read ws �
       place-is : place ≡ getD (places encodeLemma 0 (l .list)) k 0
       place-is =
           let n = length-places encodeLemma 0 (l .list) in
-          ap (λ (ns : List ℕ). getD ns k 0) (l .begin) ∙ stored-at 512 0 (places encodeLemma 0 (l .list)) k 0 (omega (arith, known)) (omega (arith, good .few))
+          ap (λ (ns : List ℕ). getD ns k 0) (l .begin) ∙ stored-in ns (places encodeLemma 0 (l .list)) k 0 (omega (arith, known)) (omega (arith, good .few))
 
       pub record Stands : Type 0 where
         pub after : List ℕ

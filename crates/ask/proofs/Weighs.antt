@@ -90,7 +90,7 @@ module _ (ws : List ℕ) {g : Image} (held : Held ws g) (ls : List ℕ) (at : �
   ranges-ready = subst smallRanges (sym ranges-are) (ranges-small (p .ranges) (ok .ranges .each))
 
   pub preds-ready : ReadRows (g .pred)
-  preds-ready = subst ReadRows (sym preds-are) (guards-read (length (p .ranges)) (p .predicates) (ok .predicates .each))
+  preds-ready = subst ReadRows (sym preds-are) (guards-read 14 (length (p .ranges)) (p .predicates) (ok .predicates .each))
 
   -- of the numbers that were read and what the source offers
   module _ {w s goal i : ℕ} {x : Source} (ew : w ≡ getD ls at 0) (es : s ≡ getD ls (at + 1) 0) (eg : goal ≡ bits 19 16 w) (ei : i ≡ bits 7 0 w)
@@ -114,7 +114,7 @@ module _ (ws : List ℕ) {g : Image} (held : Held ws g) (ls : List ℕ) (at : �
     new-ready = rw offers (new-rows-read (length (p .ranges)) (actionOf p (l .source) .sets) (action-rising (length (p .ranges)) (p .actions) (l .source) (ok .actions .each)))
 
     pub rows-ready : ReadRows (x .rows)
-    rows-ready = rw offers (guards-read (length (p .ranges)) (sourceRows p (l .source)) (source-rows-good p ok (l .source) .each))
+    rows-ready = rw offers (guards-read 8 (length (p .ranges)) (sourceRows p (l .source)) (source-rows-good p ok (l .source) .each))
 
     module _ {row q : Row} (er : row ≡ goalRow (g .ranges) (g .pred) goal i) (eq : q ≡ afterwards (x .new) (refuted goal row)) where
       abbrev rows : List Row
@@ -127,12 +127,12 @@ module _ (ws : List ℕ) {g : Image} (held : Held ws g) (ls : List ℕ) (at : �
       premises-are = rw (set-is, preds-are, counts ws held 0 .1) (ap (λ (rs : List Row). premiseRows 0 rs (l .premises .0)) (front-stored 14 zeroRow (p .predicates) (ok .predicates .few)) ∙ sym (premises-same p (l .premises)))
 
       source-is : take (x .count) (x .rows) ≡ sourceRows p (l .source)
-      source-is = rw offers (front-stored 14 zeroRow (sourceRows p (l .source)) (omega (arith, source-rows-good p ok (l .source) .few)))
+      source-is = rw offers (front-stored 8 zeroRow (sourceRows p (l .source)) (omega (arith, source-rows-good p ok (l .source) .few)))
 
       rows-are : rows ≡ rowsOf p l
       rows-are = λ t. goal-row-is t ++ (premises-are t ++ source-is t)
 
-      pub sum-ready : (g .preds ≤ 14) × (x .count ≤ 14) × (at + 2 + length rows ≤ length ls)
+      pub sum-ready : (g .preds ≤ 14) × (x .count ≤ 8) × (at + 2 + length rows ≤ length ls)
       sum-ready = (
         omega (arith, counts ws held 0 .1, counts ws held 0 .4),
         rw offers (omega (arith, source-rows-good p ok (l .source) .few)),

@@ -139,7 +139,8 @@ pub fn ask(words: &[u32], lemmas: &[u32], k: usize) -> Asked
         return Asked::Refused(why);
     }
     let image = loaded.image;
-    let list = lemmas::list(words, image, lemmas);
+    let mut begins = [0u64; 512];
+    let list = lemmas::list(words, image, lemmas, &mut begins[..]);
     let status = list.status;
     if let Status::Failed(why) = status {
         return Asked::Refused(why);
@@ -148,6 +149,6 @@ pub fn ask(words: &[u32], lemmas: &[u32], k: usize) -> Asked
     if count <= k {
         return Asked::Refused(Refusal::Absent(k));
     }
-    let at = list.begin_at[k];
+    let at = begins[k] as usize;
     answer(k, weigh_one(words, image, lemmas, at))
 }

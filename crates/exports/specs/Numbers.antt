@@ -97,6 +97,6 @@ successorOf (Node n) = record { answer = 3; node = n; refusal = 0; value = 0 }
 successorOf None = record { answer = 1; node = 0; refusal = 0; value = 0 }
 successorOf (NotViewed r) = record { answer = 2; node = 0; refusal = number r; value = value r }
 
--- 0.8.0
+-- 0.8.1
 abbrev pub version : ℕ
-version = 0 * 1000000 + 8 * 1000 + 0
+version = 0 * 1000000 + 8 * 1000 + 1

@@ -30,7 +30,7 @@ use view::Viewed;
 use words::Refusal;
 
 // Major times 1,000,000, minor times 1,000, and patch.
-pub const BNV_VERSION_NUMBER: u32 = 8000;
+pub const BNV_VERSION_NUMBER: u32 = 8001;
 
 // The version of the library, for a caller to compare with that of its header.
 #[no_mangle]

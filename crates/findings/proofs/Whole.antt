@@ -50,15 +50,15 @@ module _ (ws lemmas gl fl : List ℕ) where
     abbrev p : Program
     p = theProgram ws
 
-    module _ (s : Surveyed) {gl′ : List ℕ} (S : SurveyOf ws lemmas gl gl′ s) where
+    module _ (s : Surveyed) {gl′ : List ℕ} (ps ks : List ℕ) (S : SurveyOf ws lemmas gl gl′ ps ks s) where
       pub no-graph : {r : Refusal} → s .status ≡ Failed r → Promises (Refused r) gl′ fl
       no-graph {r} h =
-          let j = listed-by _ (subst (λ (x : Status). SurveyBy x ws lemmas gl gl′ s) h S) in
+          let j = listed-by _ (subst (λ (x : Status). SurveyBy x ws lemmas gl gl′ ps ks s) h S) in
           promised (rw j refl, (rw j refl, rw j refl))
 
       module _ (h : s .status ≡ IsReady) where
-        pub complete : Complete p (theLemmas p lemmas) ws lemmas gl gl′ s
-        complete = subst (λ (x : Status). SurveyBy x ws lemmas gl gl′ s) h S
+        pub complete : Complete p (theLemmas p lemmas) ws lemmas gl gl′ ps ks s
+        complete = subst (λ (x : Status). SurveyBy x ws lemmas gl gl′ ps ks s) h S
 
         pub listed : {r : Listed} {fl′ : List ℕ} → Lists (findings p (theLemmas p lemmas) (complete .made)) gl′ fl r fl′ → Promises r gl′ fl′
         listed v = let j = listed-by _ (complete .drawn) in promised (rw j (v .0, (sym (graph-kept (findings p (theLemmas p lemmas) (complete .made)) gl′ fl), v .1)))

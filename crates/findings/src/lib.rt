@@ -10,6 +10,7 @@ ghost use Rattle.frame.specs.Masks.{masksOf};
 ghost use Rattle.gather.specs.Gathering.{entries};
 ghost use Rattle.search.specs.Search.{Graph};
 ghost use Rattle.records.specs.Records.{graphWords};
+ghost use Rattle.ready.specs.Ready.{scratchWords};
 ghost use Rattle.survey.specs.Ready.{Ready};
 ghost use Rattle.verdict.specs.Verdicts.{findings, pathWords};
 ghost use Rattle.sheet.specs.Laying.{Laid};
@@ -40,10 +41,11 @@ fn lay(
     graph: &[u32],
     nodes: usize,
     list: &mut [u32],
+    scratch: &mut [u64],
 ) -> usize
     requires { ⌜ Held (now words) image × (now kept ≡ masksOf (theProgram (now words))) × (n ≤ length (now premises)) × (n ≤ length (now keys))
         × (graphWords ≤ length (now graph)) × ((ls : List Lemma) × (g : Graph) × (edges : ℕ)
-        × Ready (theProgram (now words)) ls g (entries (now premises) (now keys) n) nodes edges (now graph)) ⌝ }
+        × Ready (theProgram (now words)) ls g (entries (now premises) (now keys) n) nodes edges (now graph)) × (scratchWords ≤ length (now scratch)) ⌝ }
     ensures { λ r. ⌜ ((ls : List Lemma) (g : Graph) (edges : ℕ)
         → Ready (theProgram (now (words .entry))) ls g (entries (now (premises .entry)) (now (keys .entry)) n) nodes edges (now (graph .entry))
         → Laid (findings (theProgram (now (words .entry))) ls g) (now (list .entry)) 0 (now (list .exit)) r) ⌝ }
@@ -64,6 +66,7 @@ fn lay(
         graph,
         nodes,
         &mut *list,
+        &mut *scratch,
     )
 }
 
@@ -78,10 +81,11 @@ fn list_all(
     graph: &[u32],
     nodes: usize,
     list: &mut [u32],
+    scratch: &mut [u64],
 ) -> Listed
     requires { ⌜ Held (now words) image × (now kept ≡ masksOf (theProgram (now words))) × (n ≤ length (now premises)) × (n ≤ length (now keys))
         × (graphWords ≤ length (now graph)) × ((ls : List Lemma) × (g : Graph) × (edges : ℕ)
-        × Ready (theProgram (now words)) ls g (entries (now premises) (now keys) n) nodes edges (now graph)) ⌝ }
+        × Ready (theProgram (now words)) ls g (entries (now premises) (now keys) n) nodes edges (now graph)) × (scratchWords ≤ length (now scratch)) ⌝ }
     ensures { λ r. ⌜ ((ls : List Lemma) (g : Graph) (edges : ℕ)
         → Ready (theProgram (now (words .entry))) ls g (entries (now (premises .entry)) (now (keys .entry)) n) nodes edges (now (graph .entry))
         → (gl : List ℕ) → (r ≡ listAll (findings (theProgram (now (words .entry))) ls g) gl (now (list .entry)) .answer)
@@ -98,6 +102,7 @@ fn list_all(
         graph,
         nodes,
         &mut none[..],
+        &mut *scratch,
     );
     let room = list.len();
     if room < needed {
@@ -115,6 +120,7 @@ fn list_all(
             graph,
             nodes,
             &mut *list,
+            &mut *scratch,
         );
     }
     Listed::All(needed)
@@ -135,15 +141,23 @@ pub fn findings(words: &[u32], lemmas: &[u32], graph: &mut [u32], list: &mut [u3
     if graph.len() < records::ROOM {
         return Listed::Refused(Refusal::Short(0));
     }
-    let surveyed = survey::survey(words, lemmas, &mut *graph);
+    let mut premises = [0u32; 512];
+    let mut keys = [0u32; 512];
+    let mut scratch = [0u64; ready::SCRATCH];
+    let surveyed = survey::survey(
+        words,
+        lemmas,
+        &mut *graph,
+        &mut premises[..],
+        &mut keys[..],
+        &mut scratch[..],
+    );
     let status = surveyed.status;
     if let Status::Failed(why) = status {
         return Listed::Refused(why);
     }
     let image = surveyed.image;
-    let premises = surveyed.tables.premises;
-    let keys = surveyed.tables.keys;
-    let n = surveyed.tables.count;
+    let n = surveyed.count;
     let kept = surveyed.kept;
     let nodes = surveyed.nodes;
     list_all(
@@ -156,5 +170,6 @@ pub fn findings(words: &[u32], lemmas: &[u32], graph: &mut [u32], list: &mut [u3
         &graph[..],
         nodes,
         &mut *list,
+        &mut scratch[..],
     )
 }

@@ -57,7 +57,7 @@ pub record PartsOf (p : Program) (actions : ℕ) (shapes : List Shape) (predicat
 pub mask-stored : (p : Program) {actions : ℕ} {shapes : List Shape} {predicates : List Row} {n : ℕ} → PartsOf p actions shapes predicates n
     → length (p .actions) ≤ 16 → length (p .predicates) ≤ 14 → (k : ℕ) → k < length (p .actions) → maskBy predicates (getD shapes k noShape .set) n ≡ maskOf p (actionOf p k)
 mask-stored p parts few small k l =
-    rw (parts .shapes-are, parts .predicates-are, parts .n-is, stored-shape p few {g = imageOf p} refl k noShape l)
+    rw (parts .predicates-are, parts .n-is, stored-shape p few (parts .shapes-are) k noShape l)
     (mask-alike _ _ (length (p .predicates)) (λ j h. ap (λ (r : Row). clearBelow (variablesSet noneSet (actionOf p k .sets)) (r .coef) 8) (stored-at 14 zeroRow (p .predicates) j noRow h small)))
 
 module _ (p : Program) {image : Image} (same : image ≡ imageOf p) where
@@ -69,7 +69,7 @@ module _ (p : Program) {image : Image} (same : image ≡ imageOf p) where
     actions-few = omega (arith, ap (λ (y : Image). y .actions) same, ok .actions .few)
 
     pub rows-ready : (image .preds ≤ 14) × ReadRows (image .pred)
-    rows-ready = (omega (arith, ap (λ (y : Image). y .preds) same, ok .predicates .few), rw (ap (λ (y : Image). y .pred) same) (guards-read (length (p .ranges)) (p .predicates) (ok .predicates .each)))
+    rows-ready = (omega (arith, ap (λ (y : Image). y .preds) same, ok .predicates .few), rw (ap (λ (y : Image). y .pred) same) (guards-read 14 (length (p .ranges)) (p .predicates) (ok .predicates .each)))
 
 -- ---- the variables that are marked are those that are set
 clear-is : (marks : List Bool) (r : Row) (n : ℕ) → (clearBelow marks (r .coef) n ≡ true) ↔ ((v : ℕ) → v < n → getD marks v false ≡ true → Zero r v)

@@ -1,16 +1,18 @@
 -- All nodes' turns, over any successor function, and the clearing around them.
 --     rootAt                       the list with node 0 in it
 --     Running                      between two nodes: first-node, taken-on, all-over, all-done
---     cleared-done, -over, -none   with the list cleared before the search, and after it where there are too many nodes
+--     rest-cleared                 what is behind the records cleared
+--     few-found, cleared-found, cleared-none   with that, after the search, and where there is no node
 use mathlib.Core.Path.{_≡_, refl, sym, ap, _∙_}
-use mathlib.Core.List.{List, _++_}
-use Prim.Native.Nat.{ℕ, suc, _+_, _*_, _<_, _≤_}
+use mathlib.Core.List.{List, [], _++_, append-nil}
+use Prim.Native.Nat.{ℕ, suc, _+_, _-_, _*_, _<_, _≤_}
 use native.Mathlib.Omega.{arith}
 use native.Mathlib.Nat.{suc-mul, zero-mul, mul-le-mul-right}
 use native.Mathlib.Numerals.{add-one}
 use borrow.Author.Tests.{lt-ltb}
-use lib.ListN.{replicate, length-replicate, length, drop}
-use lib.Seq.{drop-at}
+use lib.ListN.{replicate, length, take, drop, length-drop}
+use lib.Seq.{take-all, take-at, drop-length, drop-drop, drop-append-add}
+use borrow.Rule.Slice.PartMut.{midOf, postOf, putMid, post-is}
 use Rattle.search.specs.Search.{Answer, To, None, Root, Graph, Result, Done, Over, count, links, linksIn, empty, turns, node, visited, explored}
 use Rattle.search.proofs.Theorem as theorem
 use Rattle.search.proofs.Steps.{explored-over, explored-done}
@@ -18,9 +20,10 @@ use Rattle.records.specs.Records.{mostNodes, header, graphWords, originWord, di
 use Rattle.records.specs.declared.Explored.{Explored}
 use Rattle.records.specs.declared.Explored.the-variants.{Whole, Full}
 use Rattle.records.specs.Steps.{exploredOf, headed, column, Near, Kept, Mid, Fair, Turned, Filled}
-use Rattle.records.proofs.Places.{most, headed-drop, zeros-left}
+use Rattle.records.proofs.Places.{most, headed-drop}
 use Rattle.records.proofs.Stores.{near-stored, kept-stored}
-use Rattle.records.proofs.Listed.{listed}
+use Rattle.records.proofs.Listed.{listed, records-length}
+use Rattle.graph.specs.Graph.{FewNodes, takenBy}
 use Rattle.graph.proofs.Turns.{Still, settle, is-over}
 
 abbrev pub rootAt : List ℕ → ℕ → List ℕ
@@ -110,32 +113,49 @@ module _ (next : ℕ → ℕ → Answer) (a s : ℕ) (l₁ l₀ l : List ℕ) (r
           (rw (c, h .leading) (refl, listed l₀ l a n x g h′ wide ∙ rw (root, root-tail l₁ s (recordPlace a n) far)))
       go Over e h = absurd h
 
--- ---- the clearing, where y is the start's answer
+-- ---- the clearing of what is left behind the records, where y is the start's answer
+pub rest-cleared : (xs ys : List ℕ) (a n N : ℕ) → a ≤ N → N ≤ length xs → n ≡ N - a → ys ≡ replicate n 0 ++ drop n (midOf a (length xs - a) xs)
+    → putMid a (length xs - a) xs ys ≡ take a xs ++ (replicate (N - a) 0 ++ drop N xs)
+rest-cleared xs ys a n N low high is e =
+    let none : postOf a (length xs - a) xs ≡ [] = post-is a (length xs) xs (omega arith) ∙ drop-length xs in
+    let whole : midOf a (length xs - a) xs ≡ drop a xs = take-all (length xs - a) (drop a xs) (omega (arith, length-drop a xs)) in
+    let there : a + (N - a) ≡ N = omega arith in
+    let rest : drop (N - a) (drop a xs) ≡ drop N xs = drop-drop (N - a) a xs ∙ ap (λ (k : ℕ). drop k xs) there in
+    let zeros : ys ≡ replicate (N - a) 0 ++ drop N xs = e ∙ rw (is, whole, rest) refl in
+    rw (none, append-nil ys) (ap (λ (z : List ℕ). take a xs ++ z) zeros)
+
 abbrev pub Leaves : (ℕ → ℕ → Answer) → ℕ → Answer → List ℕ → Explored → List ℕ → Type 0
 Leaves next a y l₀ r l = (r ≡ exploredOf (explored next a mostNodes y)) × (l ≡ graphList a (explored next a mostNodes y) l₀)
 
-module _ (next : ℕ → ℕ → Answer) (a : ℕ) (l₀ z : List ℕ) (blank : z ≡ replicate graphWords 0 ++ drop graphWords l₀) (y : Answer) where
-  module _ (w : ℕ) (from : y ≡ To w) (r : Explored) (l : List ℕ) (filled : Filled a (explored next a mostNodes (To w)) r z l) where
-    pub cleared-done : a ≤ 16 → (n x : ℕ) → r ≡ Whole n x → Leaves next a y l₀ r l
-    cleared-done ha n x is = rw from (go (explored next a mostNodes (To w)) refl filled)
+module _ (next : ℕ → ℕ → Answer) (a : ℕ) (l₀ : List ℕ) where
+  module _ (w : ℕ) (r : Explored) (l : List ℕ) (filled : Filled a (explored next a mostNodes (To w)) r l₀ l) where
+    pub few-found : FewNodes r
+    few-found = go (explored next a mostNodes (To w)) refl filled
       where
-        go : (q : Result) → explored next a mostNodes (To w) ≡ q → Filled a q r z l → (r ≡ exploredOf q) × (l ≡ graphList a q l₀)
+        go : (q : Result) → explored next a mostNodes (To w) ≡ q → Filled a q r l₀ l → FewNodes r
+        go (Done g) e f = rw (f .0) (theorem.whole (To w) next a mostNodes g e .within)
+        go Over e f = rw (f .0) tt
+
+    pub cleared-found : {y : Answer} → y ≡ To w → a ≤ 16 → (l′ : List ℕ) (used : ℕ) → used ≡ takenBy a r
+        → l′ ≡ take used l ++ (replicate (graphWords - used) 0 ++ drop graphWords l) → Leaves next a y l₀ r l′
+    cleared-found from ha l′ used is left = rw from (go (explored next a mostNodes (To w)) refl filled)
+      where
+        go : (q : Result) → explored next a mostNodes (To w) ≡ q → Filled a q r l₀ l → (r ≡ exploredOf q) × (l′ ≡ graphList a q l₀)
         go (Done g) e f =
-            let few = theorem.whole (To w) next a mostNodes g e .within in
-            (f .0, f .1 ∙ rw (zeros-left (recordPlace a (count g)) graphWords (drop graphWords l₀) z (most (count g) a few ha) blank))
-        go Over e f = let q : _≡_ {A = ℕ} 0 1 = (let p : Whole n x ≡ Full = sym is ∙ f .0 in cc) in absurd (omega arith)
+            let records = recordsOf a g (count g) in
+            let place = recordPlace a (count g) in
+            let long : length records ≡ place = records-length a g (count g) in
+            let few : place ≤ graphWords = most (count g) a (theorem.whole (To w) next a mostNodes g e .within) ha in
+            let here : used ≡ place = is ∙ ap (takenBy a) (f .0) in
+            let past : place + (graphWords - place) ≡ graphWords = omega arith in
+            let same : graphWords ≡ length records + (graphWords - place) = omega (arith, long) in
+            let front : take place l ≡ records = rw (f .1) (take-at records (drop place l₀) place long) in
+            let rest : drop graphWords l ≡ drop graphWords l₀ =
+            ap (λ (m : List ℕ). drop graphWords m) (f .1) ∙ ap (λ (k : ℕ). drop k (records ++ drop place l₀)) same ∙ drop-append-add records (drop place l₀) (graphWords - place)
+            ∙ drop-drop (graphWords - place) place l₀ ∙ ap (λ (k : ℕ). drop k l₀) past in
+            (f .0, left ∙ rw (here, front, rest) refl)
+        go Over e f = let none : used ≡ 0 = is ∙ ap (takenBy a) (f .0) in (f .0, left ∙ rw (none, f .1) refl)
 
-    pub cleared-over : (l′ : List ℕ) → r ≡ Full → l′ ≡ replicate graphWords 0 ++ drop graphWords l → Leaves next a y l₀ r l′
-    cleared-over l′ is again = rw from (go (explored next a mostNodes (To w)) filled)
-      where
-        go : (q : Result) → Filled a q r z l → (r ≡ exploredOf q) × (l′ ≡ graphList a q l₀)
-        go (Done g) f = let q : _≡_ {A = ℕ} 0 1 = (let p : Full ≡ Whole (count g) (links g) = sym is ∙ f .0 in cc) in absurd (omega arith)
-        go Over f = (
-          f .0,
-          again ∙ ap (λ (q : List ℕ). replicate graphWords 0 ++ q)
-              (f .1 ∙ ap (λ (q : List ℕ). drop graphWords q) blank ∙ drop-at (replicate graphWords 0) (drop graphWords l₀) graphWords (length-replicate {A = ℕ} graphWords 0)),
-        )
-
-  pub cleared-none : y ≡ None → Leaves next a y l₀ (Whole 0 0) z
+  pub cleared-none : {y : Answer} → y ≡ None → (l′ : List ℕ) → l′ ≡ replicate graphWords 0 ++ drop graphWords l₀ → Leaves next a y l₀ (Whole 0 0) l′
   unfolding visited recordsOf linksIn
-  cleared-none from = rw (from, explored-done next a mostNodes None empty 0 (omega arith) (omega arith) refl) (refl, rw (zero-mul (stride a)) blank)
+  cleared-none from l′ blank = rw (from, explored-done next a mostNodes None empty 0 (omega arith) (omega arith) refl) (refl, rw (zero-mul (stride a)) blank)

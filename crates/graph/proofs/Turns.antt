@@ -1,8 +1,9 @@
 -- A node's turn: in the middle of it the list holds the graph that the definition has so far, which is not over.
---     turned-as, table-gives      what an action's turn goes by
+--     turned-as, table-gives, ready-gives, fit-of      what an action's turn goes by
 --     Still, settle, is-over      of a result and a list
 --     Going                       after the first j actions: begun, went, stopped, gone
 use mathlib.Core.Path.{_≡_, refl, sym, ap, _∙_, subst}
+use mathlib.Core.Logic.{inl, inr}
 use mathlib.Core.List.{List}
 use Prim.Native.Nat.{ℕ, suc, _+_, _*_, _<_, _≤_}
 use native.Mathlib.Omega.{arith}
@@ -12,6 +13,10 @@ use lib.ListN.{length, drop, getD}
 use Rattle.words.specs.Words.{payload, literalsOf}
 use Rattle.words.specs.declared.Literals.{Literals}
 use Rattle.gather.specs.Gathering.{Entry, Table, known, successorOf}
+use Rattle.gather.specs.declared.Successor.{Successor}
+use Rattle.gather.specs.declared.Successor.the-variants.{Nothing, Set}
+use Rattle.gather.proofs.Successors.{successor-set}
+use Rattle.ready.specs.Ready.{Ready, Fit}
 use Rattle.search.specs.Search.{Answer, Origin, From, Graph, Result, Done, Over, count, links, nodeWord, answered, acted, turns}
 use Rattle.search.proofs.Steps.{Keeps, turns-keeps, turns-over}
 use Rattle.records.specs.Records.{mostNodes, graphWords, recordPlace}
@@ -19,7 +24,7 @@ use Rattle.records.specs.declared.Explored.{Explored}
 use Rattle.records.specs.declared.Explored.the-variants.{Whole, Full}
 use Rattle.records.specs.Steps.{Near, Kept, Mid, Fair, Turned}
 use Rattle.records.proofs.Places.{first-at}
-use Rattle.graph.specs.Graph.{answerOf, nextOf}
+use Rattle.graph.specs.Graph.{answerOf, nextOf, Usable}
 
 -- a turn by an answer is one by any answer equal to it
 pub turned-as : (o : Origin) {l l′ : List ℕ} {a n x e e′ : ℕ} {r : Explored} (y z : Answer) → y ≡ z
@@ -32,6 +37,24 @@ pub table-gives : (es : List Entry) (kept : List ℕ) (w u : ℕ) (s : Literals)
 table-gives es kept w u s t j e is T h =
     ap (λ (y : ℕ). answerOf (successorOf y))
     (ap (λ (v : ℕ). known (getD kept j 0) j (payload v) es) (sym e) ∙ ap (λ (v : Literals). known (getD kept j 0) j (v .0) es) (sym is) ∙ sym (T .same j h))
+
+-- the successors that a block has ready for the set u
+pub ready-gives : (es : List Entry) (kept : List ℕ) (w u j : ℕ) (s : Successor) → u ≡ payload w → s ≡ successorOf (known (getD kept j 0) j u es) → nextOf es kept w j ≡ answerOf s
+ready-gives es kept w u j s e f = ap answerOf (ap (λ (v : ℕ). successorOf (known (getD kept j 0) j v es)) (sym e) ∙ sym f)
+
+-- a node's set, as the code has it
+pub set-at : (w u v : ℕ) (s : Literals) → u ≡ w → s ≡ literalsOf u → v ≡ s .0 → v ≡ payload w
+set-at w u v s e is f = f ∙ ap (λ (y : Literals). y .0) is ∙ ap payload e
+
+-- a block that has a node's set
+pub usable-ready : {kept words rows gone : List ℕ} {es : List Entry} (i w : ℕ) → Usable kept words es rows gone → i < 64 → getD words i 0 ≡ payload w → Ready kept words es 8 rows gone
+usable-ready i w (inl blank) h e = absurd (omega (arith, blank i h, e))
+usable-ready i w (inr r) h e = r
+
+-- a successor is a set of 28 digits
+pub fit-of : (g : ℕ) (s : Successor) → s ≡ successorOf g → Fit s
+fit-of g (Set x) e = successor-set g x (sym e) .0
+fit-of g Nothing e = tt
 
 abbrev pub Still : List ℕ → Result → List ℕ → ℕ → ℕ → ℕ → ℕ → Type 0
 Still l₀ (Done g) l a n x e = Kept l₀ l a n x e g

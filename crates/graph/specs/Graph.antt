@@ -5,7 +5,11 @@
 -- nextOf   — the successor of a node's word by an action
 -- startOf  — the successor of the start
 -- graphOf  — the graph, or that there are too many nodes
-use Prim.Native.Nat.{ℕ}
+-- Usable   — a block of sets: at first no node has any of them; then their successors are ready
+-- FewNodes, takenBy — a search found at most mostNodes nodes; how many words their records take, none where there are too many
+use mathlib.Core.Path.{_≡_}
+use mathlib.Core.Logic.{_⊎_}
+use Prim.Native.Nat.{ℕ, _<_, _≤_}
 use mathlib.Core.List.{List}
 use lib.ListN.{getD}
 use Rattle.words.specs.Words.{payload, word, SETS}
@@ -13,8 +17,11 @@ use Rattle.words.specs.Limits.{START}
 use Rattle.gather.specs.Gathering.{Entry, gathered, known, successorOf}
 use Rattle.gather.specs.declared.Successor.{Successor}
 use Rattle.gather.specs.declared.Successor.the-variants.{Nothing, Set}
+use Rattle.ready.specs.Ready.{Ready}
 use Rattle.search.specs.Search.{Answer, To, None, Result, explored}
-use Rattle.records.specs.Records.{mostNodes}
+use Rattle.records.specs.Records.{mostNodes, recordPlace}
+use Rattle.records.specs.declared.Explored.{Explored}
+use Rattle.records.specs.declared.Explored.the-variants.{Whole, Full}
 
 abbrev pub answerOf : Successor → Answer
 answerOf (Set s) = To (word SETS s)
@@ -28,3 +35,14 @@ startOf es = answerOf (successorOf (gathered START 0 es))
 
 abbrev pub graphOf : List Entry → List ℕ → ℕ → Result
 graphOf es kept a = explored (nextOf es kept) a mostNodes (startOf es)
+
+abbrev pub Usable : List ℕ → List ℕ → List Entry → List ℕ → List ℕ → Type 0
+Usable kept words es scratch gone = ((i : ℕ) → i < 64 → getD words i 0 ≡ 0xFFFFFFFF) ⊎ Ready kept words es 8 scratch gone
+
+abbrev pub FewNodes : Explored → Type 0
+FewNodes (Whole n x) = n ≤ mostNodes
+FewNodes Full = Unit {0}
+
+abbrev pub takenBy : ℕ → Explored → ℕ
+takenBy a (Whole n x) = recordPlace a n
+takenBy a Full = 0

@@ -60,15 +60,15 @@ module _ (ws lemmas gl pl : List ℕ) where
       abbrev found : Graph → List Finding
       found g = findings p (theLemmas p lemmas) g
 
-      module _ (s : Surveyed) {gl′ : List ℕ} (S : SurveyOf ws lemmas gl gl′ s) where
+      module _ (s : Surveyed) {gl′ : List ℕ} (ps ks : List ℕ) (S : SurveyOf ws lemmas gl gl′ ps ks s) where
         pub no-graph : {r : Refusal} → s .status ≡ Failed r → Promises (Refused r) gl′ pl
         no-graph {r} h =
-            let j = judged-by _ (subst (λ (x : Status). SurveyBy x ws lemmas gl gl′ s) h S) in
+            let j = judged-by _ (subst (λ (x : Status). SurveyBy x ws lemmas gl gl′ ps ks s) h S) in
             promised (rw j refl, (rw j refl, rw j refl))
 
         module _ (h : s .status ≡ IsReady) where
-          pub complete : Complete p (theLemmas p lemmas) ws lemmas gl gl′ s
-          complete = subst (λ (x : Status). SurveyBy x ws lemmas gl gl′ s) h S
+          pub complete : Complete p (theLemmas p lemmas) ws lemmas gl gl′ ps ks s
+          complete = subst (λ (x : Status). SurveyBy x ws lemmas gl gl′ ps ks s) h S
 
           pub judged : {r : Judged} {pl′ : List ℕ} → (r ≡ verdict (complete .made) (found (complete .made))) × (pl′ ≡ pathList (pathTo (complete .made) (found (complete .made))) pl)
               → Promises r gl′ pl′

@@ -10,6 +10,7 @@ ghost use Rattle.frame.specs.Masks.{masksOf};
 ghost use Rattle.gather.specs.Gathering.{entries};
 ghost use Rattle.search.specs.Search.{Graph};
 ghost use Rattle.records.specs.Records.{graphWords};
+ghost use Rattle.ready.specs.Ready.{scratchWords};
 ghost use Rattle.survey.specs.Ready.{Ready};
 ghost use Rattle.verdict.specs.Verdicts.{findings, pathWords, pathList};
 ghost use Rattle.verdict.specs.Working.{foundOf, Within};
@@ -42,10 +43,11 @@ fn first_finding(
     n: usize,
     graph: &[u32],
     nodes: usize,
+    scratch: &mut [u64],
 ) -> Found
     requires { ⌜ Held (now words) image × (now kept ≡ masksOf (theProgram (now words))) × (n ≤ length (now premises)) × (n ≤ length (now keys))
         × (graphWords ≤ length (now graph)) × ((ls : List Lemma) × (g : Graph) × (edges : ℕ)
-        × Ready (theProgram (now words)) ls g (entries (now premises) (now keys) n) nodes edges (now graph)) ⌝ }
+        × Ready (theProgram (now words)) ls g (entries (now premises) (now keys) n) nodes edges (now graph)) × (scratchWords ≤ length (now scratch)) ⌝ }
     ensures { λ r. ⌜ Within nodes r × ((ls : List Lemma) (g : Graph) (edges : ℕ)
         → Ready (theProgram (now (words .entry))) ls g (entries (now (premises .entry)) (now (keys .entry)) n) nodes edges (now (graph .entry))
         → r ≡ foundOf (findings (theProgram (now (words .entry))) ls g)) ⌝ }
@@ -65,6 +67,7 @@ fn first_finding(
         actions,
         graph,
         nodes,
+        &mut *scratch,
     )
 }
 
@@ -80,17 +83,29 @@ fn judge_graph(
     nodes: usize,
     edges: usize,
     path: &mut [u32],
+    scratch: &mut [u64],
 ) -> Judged
     requires { ⌜ Held (now words) image × (now kept ≡ masksOf (theProgram (now words))) × (n ≤ length (now premises)) × (n ≤ length (now keys))
         × (graphWords ≤ length (now graph)) × (pathWords ≤ length (now path))
-        × ((ls : List Lemma) × (g : Graph) × Ready (theProgram (now words)) ls g (entries (now premises) (now keys) n) nodes edges (now graph)) ⌝ }
+        × ((ls : List Lemma) × (g : Graph) × Ready (theProgram (now words)) ls g (entries (now premises) (now keys) n) nodes edges (now graph))
+        × (scratchWords ≤ length (now scratch)) ⌝ }
     ensures { λ r. ⌜ ((ls : List Lemma) (g : Graph)
         → Ready (theProgram (now (words .entry))) ls g (entries (now (premises .entry)) (now (keys .entry)) n) nodes edges (now (graph .entry))
         → (r ≡ verdict g (findings (theProgram (now (words .entry))) ls g))
         × (now (path .exit) ≡ pathList (pathTo g (findings (theProgram (now (words .entry))) ls g)) (now (path .entry)))) ⌝ }
 {
     let actions = image.actions;
-    let found = first_finding(words, image, kept, premises, keys, n, graph, nodes);
+    let found = first_finding(
+        words,
+        image,
+        kept,
+        premises,
+        keys,
+        n,
+        graph,
+        nodes,
+        &mut *scratch,
+    );
     match found {
         Found::Nothing => {
             verdict::clear_path(&mut *path);
@@ -123,15 +138,23 @@ pub fn judge(words: &[u32], lemmas: &[u32], graph: &mut [u32], path: &mut [u32])
     if path.len() < verdict::PATH_ROOM {
         return Judged::Refused(Refusal::Short(1));
     }
-    let surveyed = survey::survey(words, lemmas, &mut *graph);
+    let mut premises = [0u32; 512];
+    let mut keys = [0u32; 512];
+    let mut scratch = [0u64; ready::SCRATCH];
+    let surveyed = survey::survey(
+        words,
+        lemmas,
+        &mut *graph,
+        &mut premises[..],
+        &mut keys[..],
+        &mut scratch[..],
+    );
     let status = surveyed.status;
     if let Status::Failed(why) = status {
         return Judged::Refused(why);
     }
     let image = surveyed.image;
-    let premises = surveyed.tables.premises;
-    let keys = surveyed.tables.keys;
-    let n = surveyed.tables.count;
+    let n = surveyed.count;
     let kept = surveyed.kept;
     let nodes = surveyed.nodes;
     let edges = surveyed.edges;
@@ -146,5 +169,6 @@ pub fn judge(words: &[u32], lemmas: &[u32], graph: &mut [u32], path: &mut [u32])
         nodes,
         edges,
         &mut *path,
+        &mut scratch[..],
     )
 }

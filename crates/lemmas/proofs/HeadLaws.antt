@@ -27,7 +27,7 @@ use Rattle.lemmas.specs.Lemmas.{Goal, CannotHappen, HoldsAfter, FailsAft
 use Rattle.lemmas.specs.LemmaGrammar.{setsVariable, goalAllowed, headAllowed, premisesAllowed, lemmaOf}
 use Rattle.lemmas.specs.Sources.{theProgram, Held, shapeOf, goalBy, headBy, premisesBy, oneIf, literalCount, rowCount}
 use Rattle.programs.specs.declared.Shape.{Shape}
-use Rattle.lemmas.proofs.LemmaLaws.{action-rising}
+use Rattle.lemmas.proofs.LemmaLaws.{action-rising, action-guards}
 use Rattle.lemmas.proofs.SourceLaws.{counts}
 
 -- ---- goals, as the code tells them apart
@@ -156,11 +156,6 @@ module _ (n set : ℕ) where
   counting-all {i} {t} c l = let none : n - i ≡ 0 = omega arith in let e = rw none at (c .same) in omega (arith, e)
 
 -- ---- the rows of a source are few, and each is good
-action-guards : (vars : ℕ) (xs : List Action) (k : ℕ) → Each (ActionOk vars) xs → Few 8 (RowOk vars) (getD xs k noneAction .guards)
-action-guards vars [] k p = record { few = omega arith; each = tt }
-action-guards vars (x ∷ xs) zero p = p .0 .guards
-action-guards vars (x ∷ xs) (suc k) p = action-guards vars xs k (p .1)
-
 pub source-rows-good : (p : Program) → WellFormed p → (s : ℕ) → Few 8 (RowOk (length (p .ranges))) (sourceRows p s)
 source-rows-good p ok s = go (eqb s START)
   where

@@ -15,7 +15,7 @@ use Rattle.grammar.specs.Reading.{Read, got, refused, one, always, begins, time
 use Rattle.grammar.specs.Programs.{Assignment, Action, Program}
 use Rattle.grammar.specs.Grammar.{nothing}
 use Rattle.grammar.specs.Encoding.{concat}
-use Rattle.grammar.specs.WellFormed.{Each, Few, Rising, ActionOk, WellFormed}
+use Rattle.grammar.specs.WellFormed.{Each, Few, Rising, ActionOk, WellFormed, RowOk}
 use Rattle.grammar.proofs.ReadingLaws.{Codec, Taken, retaken, one-taken, bound, one-out, one-in, not-got, times-codec, many-out, many-into}
 use Rattle.programs.proofs.Places.{noneAction}
 use Rattle.runs.specs.Runs.{actionOf}
@@ -83,6 +83,11 @@ pub action-rising : (vars : ℕ) (xs : List Action) (k : ℕ) → Each (ActionOk
 action-rising vars [] k p = tt
 action-rising vars (x ∷ xs) zero p = p .0 .rising
 action-rising vars (x ∷ xs) (suc k) p = action-rising vars xs k (p .1)
+
+pub action-guards : (vars : ℕ) (xs : List Action) (k : ℕ) → Each (ActionOk vars) xs → Few 8 (RowOk vars) (getD xs k noneAction .guards)
+action-guards vars [] k p = record { few = omega arith; each = tt }
+action-guards vars (x ∷ xs) zero p = p .0 .guards
+action-guards vars (x ∷ xs) (suc k) p = action-guards vars xs k (p .1)
 
 module _ (p : Program) (ok : WellFormed p) where
   source-lt : (s : ℕ) → sourceAllowed p s ≡ true → s < 256

@@ -8,7 +8,7 @@ use native.Mathlib.Nat.{sub-zero}
 use native.Mathlib.Numerals.{add-one}
 use native.Mathlib.Nat.{add-zero, zero-add}
 use lib.Dec.{ltb}
-use lib.ListN.{length, getD, set, drop, replicate, drop-of-length-le}
+use lib.ListN.{length, getD, set, drop, drop-of-length-le}
 use lib.Seq.{sets, drop-cons}
 use Rattle.words.specs.Words.{bits, payload, literalsOf, LEMMA, SETS, MULT}
 use Rattle.words.specs.declared.Refusal.{Refusal}
@@ -24,11 +24,11 @@ use Rattle.reader.specs.Results.{nextOf}
 use Rattle.reader.proofs.Laws.{head-refused, head-taken, next-refused, next-at}
 use Rattle.reader.proofs.RowsLoop.{answer-refused, answer-at, left-is, left-within}
 use Rattle.programs.specs.Places.{places}
-use Rattle.programs.specs.declared.Status.the-variants.{Ready}
+use Rattle.programs.specs.declared.Status.the-variants.{Ready, Failed}
 use Rattle.programs.proofs.ManyLaws.{Loop, stopped, ended, turned, within-limit}
 use Rattle.lemmas.specs.Lemmas.{Lemma, rowsOf}
 use Rattle.lemmas.specs.LemmaGrammar.{headAllowed, premisesAllowed, multiplier, lemmaOf, lemma, list, asLemma, readLemmas, encodeLemma}
-use Rattle.lemmas.specs.Sources.{lemmaRead, noBegins, beginsFrom, listed}
+use Rattle.lemmas.specs.Sources.{lemmaRead, Beginnings, noBegins, beginsFrom, BeginsAs, listed, ListedAs}
 use Rattle.lemmas.specs.declared.LemmaRead.{LemmaRead}
 use Rattle.lemmas.specs.declared.Begins.{Begins}
 use Rattle.lemmas.proofs.LemmaLaws.{multAllowed, head-goal, lemma-codec, lemma-full}
@@ -138,21 +138,28 @@ unfolding places
 lemma-stored ns k i j l (got rest us n) e = let more : k + suc (length rest) ≡ suc k + length rest = omega arith in rw (add-one k, more, e) refl
 lemma-stored ns k i j l (refused x) e = refl
 
-module _ (p : Program) (ok : WellFormed p) (ws : List ℕ) where
-  abbrev LemmasLoop : List ℕ → ℕ → ℕ → Type 0
-  LemmasLoop ns i k = Loop LEMMA (lemma p) 512 beginsFrom ws 0 (replicate 512 0) ns i k
+stopped-not-at : {P : Type 0} {r : Refusal} {j : ℕ} → Stopped r ≡ At j → P
+stopped-not-at e = let z : _≡_ {A = ℕ} 0 1 = cc in absurd (omega arith)
 
-  abbrev lemmasAnswer : Begins
-  lemmasAnswer = beginsFrom (replicate 512 0) 0 0 (many LEMMA (lemma p) 512 (drop 0 ws) 0)
+module _ (p : Program) (ok : WellFormed p) (ws ns₀ : List ℕ) where
+  abbrev LemmasLoop : List ℕ → ℕ → ℕ → Type 0
+  LemmasLoop ns i k = Loop LEMMA (lemma p) 512 beginsFrom ws 0 ns₀ ns i k
+
+  abbrev lemmasAnswer : Beginnings
+  lemmasAnswer = beginsFrom ns₀ 0 0 (many LEMMA (lemma p) 512 (drop 0 ws) 0)
 
   module _ {ns : List ℕ} {i k : ℕ} (t : LemmasLoop ns i k) where
-    pub lemmas-ended : begins LEMMA (drop i ws) ≡ false → record { «begin_at» = ns; count = k; next = At i } ≡ lemmasAnswer
+    pub lemmas-ended : begins LEMMA (drop i ws) ≡ false → BeginsAs lemmasAnswer (record { count = k; next = At i }) ns
     unfolding places
-    lemmas-ended h = (λ d. record { «begin_at» = ns; count = sym (add-zero k) d; next = At i }) ∙ ended LEMMA (lemma p) 512 beginsFrom ws 0 (replicate 512 0) t h
+    lemmas-ended h =
+        let e : record { begin = ns; count = k; next = At i } ≡ lemmasAnswer = (λ d. record { begin = ns; count = sym (add-zero k) d; next = At i }) ∙ ended LEMMA (lemma p) 512 beginsFrom ws 0 ns₀ t h in
+        (ap (λ (b : Beginnings). b .count) e, ap (λ (b : Beginnings). b .next) e, λ j q. ap (λ (b : Beginnings). b .begin) e)
 
     module _ (h : begins LEMMA (drop i ws) ≡ true) {x : LemmaRead} (e : x ≡ lemmaRead (lemma p (ltb k 512) (drop i ws) i)) where
-      pub lemmas-stopped : {r : Refusal} → x .next ≡ Stopped r → noBegins r ≡ lemmasAnswer
-      lemmas-stopped q = stopped LEMMA (lemma p) 512 beginsFrom ws 0 (replicate 512 0) t h (answer-refused lemmaRead (λ y. y .next) lemma-next _ e q)
+      pub lemmas-stopped : {r : Refusal} (l : List ℕ) → x .next ≡ Stopped r → BeginsAs lemmasAnswer (record { count = 0; next = Stopped r }) l
+      lemmas-stopped {r} l q =
+          let s : noBegins r ≡ lemmasAnswer = stopped LEMMA (lemma p) 512 beginsFrom ws 0 ns₀ t h (answer-refused lemmaRead (λ y. y .next) lemma-next _ e q) in
+          (ap (λ (b : Beginnings). b .count) s, ap (λ (b : Beginnings). b .next) s, λ j a. stopped-not-at (ap (λ (b : Beginnings). b .next) s ∙ a))
 
       pub lemma-turned : {j : ℕ} → x .next ≡ At j → (k < 512) × LemmasLoop (set ns k i) j (k + 1)
       lemma-turned {j} q = answer-at lemmaRead (λ y. y .next) lemma-next _ e q (λ l us r w.
@@ -160,39 +167,45 @@ module _ (p : Program) (ok : WellFormed p) (ws : List ℕ) where
           let o = lemma-codec p ok .out (drop i ws) i l us j item in
           let rest = left-is ws (t .here) o in (
             room,
-            turned LEMMA (lemma p) 512 beginsFrom ws 0 (replicate 512 0) t h room (rw rest at item) (left-within ws (t .here) o) (λ m. lemma-stored ns k i j l m (o .place)),
+            turned LEMMA (lemma p) 512 beginsFrom ws 0 ns₀ t h room (rw rest at item) (left-within ws (t .here) o) (λ m. lemma-stored ns k i j l m (o .place)),
           ))
 
 -- ---- a list: its lemmas, and nothing after them
-begins-next : (m : Read (List Lemma)) → beginsFrom (replicate 512 0) 0 0 m .next ≡ nextOf m
-begins-next (got ls us i) = refl
-begins-next (refused x) = refl
+failed-not-ready : {P : Type 0} {r : Refusal} → Failed r ≡ Ready → P
+failed-not-ready e = let z : _≡_ {A = ℕ} 0 1 = cc in absurd (omega arith)
 
-module _ (p : Program) (ok : WellFormed p) (ws : List ℕ) {x : Begins} (e : x ≡ lemmasAnswer p ok ws) where
+module _ (p : Program) (ok : WellFormed p) (ws ns : List ℕ) {x : Begins} {l : List ℕ} (e : BeginsAs (lemmasAnswer p ok ws ns) x l) where
   abbrev lemmasRead : Read (List Lemma)
   lemmasRead = many LEMMA (lemma p) 512 (drop 0 ws) 0
 
-  pub list-refused : {r : Refusal} → x .next ≡ Stopped r → listed (refused (asLemma r)) ≡ listed (readLemmas p ws)
+  begins-next : (m : Read (List Lemma)) → beginsFrom ns 0 0 m .next ≡ nextOf m
+  begins-next (got ls us i) = refl
+  begins-next (refused x) = refl
+
+  failed-as : {r : Refusal} → readLemmas p ws ≡ refused r → ListedAs (listed ns (readLemmas p ws)) (record { status = Failed r; count = 0 }) l
+  failed-as q = rw q (refl, refl, λ m. failed-not-ready m)
+
+  pub list-refused : {r : Refusal} → x .next ≡ Stopped r → ListedAs (listed ns (readLemmas p ws)) (record { status = Failed (asLemma r); count = 0 }) l
   unfolding list
-  list-refused h = rw (answer-refused (beginsFrom (replicate 512 0) 0 0) (λ y. y .next) begins-next lemmasRead e h) refl
+  list-refused h = failed-as (rw (answer-refused (beginsFrom ns 0 0) (λ y. y .next) begins-next lemmasRead refl (sym (e .1) ∙ h)) refl)
 
   module _ {i : ℕ} (h : x .next ≡ At i) where
     -- the lemmas that were read, up to index i
     abbrev ReadTo : List Lemma → Type 0
-    ReadTo ls = (lemmasRead ≡ got ls (drop i ws) i) × (x .«begin_at» ≡ sets (replicate 512 0) 0 (places encodeLemma 0 ls)) × (x .count ≡ length ls)
+    ReadTo ls = (lemmasRead ≡ got ls (drop i ws) i) × (l ≡ sets ns 0 (places encodeLemma 0 ls)) × (x .count ≡ length ls)
 
     read-to : (ls : List Lemma) × ReadTo ls
-    read-to = answer-at (beginsFrom (replicate 512 0) 0 0) (λ y. y .next) begins-next lemmasRead e h (λ ls us q w.
+    read-to = answer-at (beginsFrom ns 0 0) (λ y. y .next) begins-next lemmasRead refl (sym (e .1) ∙ h) (λ ls us q w.
         let t = many-out LEMMA (lemma p) (lemma-codec p ok) (lemma-full p ok) 512 ws 0 ls us i q in
         let rest = left-is ws {i = 0} (omega arith) t in
-        (ls, (rw rest at q, ap (λ (y : Begins). y .«begin_at») w, ap (λ (y : Begins). y .count) w ∙ zero-add (length ls))))
+        (ls, (rw rest at q, e .2 i (sym (e .1) ∙ h) ∙ ap (λ (y : Beginnings). y .begin) w, e .0 ∙ ap (λ (y : Beginnings). y .count) w ∙ zero-add (length ls))))
 
-    pub list-more : i < length ws → listed (refused (asLemma (Word i))) ≡ listed (readLemmas p ws)
+    pub list-more : i < length ws → ListedAs (listed ns (readLemmas p ws)) (record { status = Failed (asLemma (Word i)); count = 0 }) l
     unfolding list
-    list-more l = rw (read-to .1 .0, drop-cons ws i 0 l) refl
+    list-more m = failed-as (rw (read-to .1 .0, drop-cons ws i 0 m) refl)
 
-    pub list-whole : length ws ≤ i → record { status = Ready; «begin_at» = x .«begin_at»; count = x .count } ≡ listed (readLemmas p ws)
+    pub list-whole : length ws ≤ i → ListedAs (listed ns (readLemmas p ws)) (record { status = Ready; count = x .count }) l
     unfolding list
-    list-whole l =
-        let whole : listed (got (read-to .0) [] i) ≡ listed (readLemmas p ws) = rw (read-to .1 .0, drop-of-length-le ws {i = i} l) refl in
-        (λ t. record { status = Ready; «begin_at» = read-to .1 .1 t; count = read-to .1 .2 t }) ∙ whole
+    list-whole m =
+        let whole : readLemmas p ws ≡ got (read-to .0) [] i = rw (read-to .1 .0, drop-of-length-le ws {i = i} m) refl in
+        rw whole (refl, read-to .1 .2, λ q. read-to .1 .1)

@@ -7,8 +7,10 @@
 -- goalBy, headBy, premisesBy — what a lemma's first two words may say, by the program's counts and what the source sets
 -- oneIf, literalCount, rowCount — 1 where a test holds; how many literals a set has; how many rows a lemma has
 -- lemmaRead              — a lemma and where reading goes on
--- noBegins, beginsFrom   — no lemmas, and why; where lemmas begin, put behind those that are stored
--- listed                 — where each lemma of a list begins, or the refusal
+-- eightRows              — eight rows of zeros
+-- Beginnings, noBegins, beginsFrom — where lemmas begin, how many and where reading goes on; none, and why; put behind those that are stored
+-- BeginsAs               — an answer and the list that was lent say this; nothing is said of the list where reading stopped
+-- Listing, listed, ListedAs — where each lemma of a list begins, or the refusal; an answer and the list that was lent say this
 use mathlib.Core.Path.{_≡_}
 use mathlib.Core.Bool.{Bool, false, cond, _&&_, _||_, not}
 use mathlib.Core.List.{List, []}
@@ -22,15 +24,18 @@ use Rattle.grammar.specs.Reading.{Read, got, refused}
 use Rattle.grammar.specs.Programs.{Program}
 use Rattle.grammar.specs.Grammar.{literalsAllowed}
 use Rattle.grammar.proofs.ProgramLaws.{Accepted}
+use Rattle.reader.specs.declared.Next.{Next}
 use Rattle.reader.specs.declared.Next.the-variants.{At}
 use Rattle.reader.specs.declared.Next.the-variants.{Refused as Stopped}
-use Rattle.reader.specs.Results.{zeroRows}
+use Rattle.reader.specs.Results.{zeroRow}
+use Rattle.rows.specs.declared.Row.{Row}
 use Rattle.actions.specs.Results.{variablesSet, noneSet}
 use Rattle.programs.specs.Calls.{read}
 use Rattle.programs.specs.Images.{imageOf}
 use Rattle.programs.specs.Places.{places}
 use Rattle.programs.specs.declared.Image.{Image}
 use Rattle.programs.specs.declared.Shape.{Shape}
+use Rattle.programs.specs.declared.Status.{Status}
 use Rattle.programs.specs.declared.Status.the-variants.{Ready, Failed}
 use Rattle.words.specs.LiteralSets.{has}
 use Rattle.runs.specs.Runs.{actionOf}
@@ -52,8 +57,11 @@ pub record Held (ws : List ℕ) (image : Image) : Type 0 where
   pub accepted : Accepted ws (theProgram ws)
   pub same : image ≡ imageOf (theProgram ws)
 
+abbrev pub eightRows : List Row
+eightRows = replicate 8 zeroRow
+
 abbrev pub sourceOf : Program → ℕ → Source
-sourceOf p s = record { count = length (sourceRows p s); rows = sets zeroRows 0 (sourceRows p s); new = newRows p s }
+sourceOf p s = record { count = length (sourceRows p s); rows = sets eightRows 0 (sourceRows p s); new = newRows p s }
 
 abbrev pub shapeOf : Program → ℕ → Shape
 shapeOf p s = record { count = length (sourceRows p s); set = variablesSet noneSet (actionOf p s .sets) }
@@ -93,13 +101,29 @@ abbrev pub lemmaRead : Read Lemma → LemmaRead
 lemmaRead (got l ws j) = record { source = l .source; goal = goalNumber (l .goal); index = l .index; premises = l .premises; next = At j }
 lemmaRead (refused x) = record { source = 0; goal = 0; index = 0; premises = noLiterals; next = Stopped x }
 
-abbrev pub noBegins : Refusal → Begins
-noBegins x = record { «begin_at» = replicate 512 0; count = 0; next = Stopped x }
+pub record Beginnings : Type 0 where
+  pub begin : List ℕ
+  pub count : ℕ
+  pub next : Next
 
-abbrev pub beginsFrom : List ℕ → ℕ → ℕ → Read (List Lemma) → Begins
-beginsFrom ns k i (got ls ws j) = record { «begin_at» = sets ns k (places encodeLemma i ls); count = k + length ls; next = At j }
+abbrev pub noBegins : Refusal → Beginnings
+noBegins x = record { begin = []; count = 0; next = Stopped x }
+
+abbrev pub beginsFrom : List ℕ → ℕ → ℕ → Read (List Lemma) → Beginnings
+beginsFrom ns k i (got ls ws j) = record { begin = sets ns k (places encodeLemma i ls); count = k + length ls; next = At j }
 beginsFrom ns k i (refused x) = noBegins x
 
-abbrev pub listed : Read (List Lemma) → Listed
-listed (got ls ws j) = record { status = Ready; «begin_at» = sets (replicate 512 0) 0 (places encodeLemma 0 ls); count = length ls }
-listed (refused x) = record { status = Failed x; «begin_at» = replicate 512 0; count = 0 }
+abbrev pub BeginsAs : Beginnings → Begins → List ℕ → Type 0
+BeginsAs b r l = (r .count ≡ b .count) × (r .next ≡ b .next) × ((j : ℕ) → b .next ≡ At j → l ≡ b .begin)
+
+pub record Listing : Type 0 where
+  pub status : Status
+  pub begin : List ℕ
+  pub count : ℕ
+
+abbrev pub listed : List ℕ → Read (List Lemma) → Listing
+listed ns (got ls ws j) = record { status = Ready; begin = sets ns 0 (places encodeLemma 0 ls); count = length ls }
+listed ns (refused x) = record { status = Failed x; begin = []; count = 0 }
+
+abbrev pub ListedAs : Listing → Listed → List ℕ → Type 0
+ListedAs x r l = (r .status ≡ x .status) × (r .count ≡ x .count) × (x .status ≡ Ready → l ≡ x .begin)

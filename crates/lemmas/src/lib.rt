@@ -1,7 +1,7 @@
 // Lemmas: reading a list of them over a program that has been read.
 ghost use mathlib.Core.Path.{_≡_};
 ghost use Prim.Native.Nat.{_+_, _<_, _≤_};
-ghost use lib.ListN.{length, drop, getD, replicate};
+ghost use lib.ListN.{length, take, drop, getD};
 ghost use Rattle.words.specs.Words.{bits, LEMMA};
 ghost use Rattle.grammar.specs.Reading.{times, many, refused};
 ghost use Rattle.grammar.specs.Programs.{Program};
@@ -9,11 +9,13 @@ ghost use mathlib.Core.Bool.{false, _||_};
 ghost use lib.Dec.{eqb, ltb};
 ghost use Rattle.lemmas.specs.Lemmas.{START};
 ghost use Rattle.reader.specs.Results.{nextOf};
+ghost use Rattle.reader.specs.declared.Next.the-variants.{Refused};
+ghost use Rattle.programs.specs.declared.Status.the-variants.{Failed};
 ghost use Rattle.programs.specs.Images.{imageOf};
 ghost use Rattle.words.specs.LiteralSets.{has};
 ghost use Rattle.lemmas.specs.LemmaGrammar.{multiplier, lemma, asLemma, readLemmas};
 ghost use Rattle.lemmas.specs.Sources.{theProgram, Held, sourceOf, shapeOf, slotOf, Slotted, goalBy, headBy, premisesBy, literalCount};
-ghost use Rattle.lemmas.specs.Sources.{rowCount, oneIf, lemmaRead, noBegins, beginsFrom, listed};
+ghost use Rattle.lemmas.specs.Sources.{rowCount, oneIf, lemmaRead, beginsFrom, BeginsAs, listed, ListedAs};
 use programs::Image;
 use programs::Shape;
 use programs::Status;
@@ -26,11 +28,29 @@ use words::Refusal;
 // What a lemma's source offers: its rows from place 0 on, and each variable's row afterwards.
 pub struct Source {
     pub count: usize,
-    pub rows: [Row; 14],
+    pub rows: [Row; 8],
     pub new: [Row; 8],
 }
 
-fn offer(count: usize, rows: [Row; 14], new: [Row; 8]) -> Source
+// The first eight rows; no source has more.
+fn eight(rows: [Row; 14]) -> [Row; 8]
+    ensures { λ r. ⌜ r ≡ take 8 rows ⌝ }
+{
+    let blank = Row {
+        coef: [0i64; 8],
+        constant: 0,
+    };
+    let mut out = [blank; 8];
+    let mut i: usize = 0;
+    while i < 8 {
+        let row = rows[i];
+        out[i] = row;
+        i += 1;
+    }
+    out
+}
+
+fn offer(count: usize, rows: [Row; 8], new: [Row; 8]) -> Source
     ensures { λ r. ⌜ r ≡ record { count = count; rows = rows; new = new } ⌝ }
 {
     Source { count, rows, new }
@@ -44,20 +64,21 @@ pub fn source_of(words: &[u32], image: Image, number: usize) -> Source
     let new = actions::KEEP;
     if number == 255 {
         let rows = image.start;
-        return offer(image.starts, rows, new);
+        return offer(image.starts, eight(rows), new);
     }
     if image.actions <= number {
         let blank = Row {
             coef: [0i64; 8],
             constant: 0,
         };
-        return offer(0, [blank; 14], new);
+        return offer(0, [blank; 8], new);
     }
-    let at = image.action_at[number];
+    let places = image.action_at;
+    let at = places[number];
     let read = actions::read_action(words, at, image.vars, true);
     let rows = read.guard;
     let new = read.rows;
-    offer(read.guards, rows, new)
+    offer(read.guards, eight(rows), new)
 }
 
 // The place of a source in a table of them: an action's number, 16 for the start, 17 for any other.
@@ -276,30 +297,28 @@ fn read_lemma(
     }
 }
 
-// Where each lemma begins, how many there are, and where reading goes on.
+// How many lemmas there are, and where reading goes on.
 pub struct Begins {
-    pub begin_at: [usize; 512],
     pub count: usize,
     pub next: Next,
 }
 
 fn no_begins(why: Refusal) -> Begins
-    ensures { λ r. ⌜ r ≡ noBegins why ⌝ }
+    ensures { λ r. ⌜ r ≡ record { count = 0; next = Refused why } ⌝ }
 {
     Begins {
-        begin_at: [0; 512],
         count: 0,
         next: Next::Refused(why),
     }
 }
 
-// The 0 to 512 lemmas at the front of the list.
-fn read_lemmas(words: &[u32], image: Image, lemmas: &[u32]) -> Begins
-    requires { ⌜ Held (now words) image ⌝ }
-    ensures { λ r. ⌜ r ≡ beginsFrom (replicate 512 0) 0 0 (many LEMMA (lemma (theProgram (now (words .entry)))) 512 (drop 0 (now (lemmas .entry))) 0) ⌝ }
+// The 0 to 512 lemmas at the front of the list. Where each begins is put into `begins`.
+fn read_lemmas(words: &[u32], image: Image, lemmas: &[u32], begins: &mut [u64]) -> Begins
+    requires { ⌜ Held (now words) image × (512 ≤ length (now begins)) ⌝ }
+    ensures { λ r. ⌜ BeginsAs (beginsFrom (now (begins .entry)) 0 0 (many LEMMA (lemma (theProgram (now (words .entry)))) 512 (drop 0 (now (lemmas .entry))) 0))
+        r (now (begins .exit)) ⌝ }
 {
     let t = shapes(image);
-    let mut begin_at = [0usize; 512];
     let mut i: usize = 0;
     let mut k: usize = 0;
     while reader::begins(lemmas, i, Kind::LEMMA) {
@@ -311,14 +330,13 @@ fn read_lemmas(words: &[u32], image: Image, lemmas: &[u32]) -> Begins
                 return no_begins(why);
             }
             Next::At(j) => {
-                begin_at[k] = i;
+                begins[k] = i as u64;
                 i = j;
                 k += 1;
             }
         }
     }
     Begins {
-        begin_at,
         count: k,
         next: Next::At(i),
     }
@@ -335,29 +353,27 @@ fn as_lemma(why: Refusal) -> Refusal
     }
 }
 
-// Where each lemma of a list begins and how many there are, or why it is no lemma list.
+// How many lemmas a list has, or why it is no lemma list.
 pub struct Listed {
     pub status: Status,
-    pub begin_at: [usize; 512],
     pub count: usize,
 }
 
 fn not_listed(why: Refusal) -> Listed
-    ensures { λ r. ⌜ r ≡ listed (refused (asLemma why)) ⌝ }
+    ensures { λ r. ⌜ r ≡ record { status = Failed (asLemma why); count = 0 } ⌝ }
 {
     Listed {
         status: Status::Failed(as_lemma(why)),
-        begin_at: [0; 512],
         count: 0,
     }
 }
 
-// The lemmas that a list is.
-pub fn list(words: &[u32], image: Image, lemmas: &[u32]) -> Listed
-    requires { ⌜ Held (now words) image ⌝ }
-    ensures { λ r. ⌜ r ≡ listed (readLemmas (theProgram (now (words .entry))) (now (lemmas .entry))) ⌝ }
+// The lemmas that a list is. Where each begins is put into `begins`.
+pub fn list(words: &[u32], image: Image, lemmas: &[u32], begins: &mut [u64]) -> Listed
+    requires { ⌜ Held (now words) image × (512 ≤ length (now begins)) ⌝ }
+    ensures { λ r. ⌜ ListedAs (listed (now (begins .entry)) (readLemmas (theProgram (now (words .entry))) (now (lemmas .entry)))) r (now (begins .exit)) ⌝ }
 {
-    let read = read_lemmas(words, image, lemmas);
+    let read = read_lemmas(words, image, lemmas, &mut *begins);
     let next = read.next;
     match next {
         Next::Refused(why) => not_listed(why),
@@ -365,11 +381,9 @@ pub fn list(words: &[u32], image: Image, lemmas: &[u32]) -> Listed
             if i < lemmas.len() {
                 return not_listed(Refusal::Word(i));
             }
-            let begin_at = read.begin_at;
             let count = read.count;
             Listed {
                 status: Status::Ready,
-                begin_at,
                 count,
             }
         }

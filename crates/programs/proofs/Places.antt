@@ -28,12 +28,16 @@ module _ {A : Type 0} (e : A → List ℕ) where
   length-places i [] = refl
   length-places i (x ∷ xs) = ap suc (length-places (i + length (e x)) xs)
 
+-- a place of a list that was filled from the front
+pub stored-in : {A : Type 0} (l xs : List A) (k : ℕ) (d : A) → k < length xs → length xs ≤ length l → getD (sets l 0 xs) k d ≡ getD xs k d
+stored-in {A} l xs k d h r =
+    let room : 0 + length xs ≤ length l = omega arith in
+    ap (λ (m : List A). getD m k d) (sets-eq xs l 0 room) ∙ List·getD-append xs (drop (0 + length xs) l) d k h
+
 -- a place of a table that was filled from the front, and one past what it was filled with
 module _ {A : Type 0} (n : ℕ) (a : A) (xs : List A) (k : ℕ) (d : A) where
   pub stored-at : k < length xs → length xs ≤ n → getD (sets (replicate n a) 0 xs) k d ≡ getD xs k d
-  stored-at h l =
-      let room : 0 + length xs ≤ length (replicate n a) = simp length-replicate (omega arith) in
-      ap (λ (m : List A). getD m k d) (sets-eq xs (replicate n a) 0 room) ∙ List·getD-append xs (drop (0 + length xs) (replicate n a)) d k h
+  stored-at h l = stored-in (replicate n a) xs k d h (simp length-replicate l)
 
   pub blank-at : length xs ≤ k → k < n → getD (sets (replicate n a) 0 xs) k d ≡ a
   blank-at h l =

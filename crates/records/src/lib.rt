@@ -18,7 +18,7 @@ pub enum Explored {
 }
 
 // How many words of a record come before its edges: the node's word, its origin and its distance.
-const HEADER: usize = 3;
+pub const HEADER: usize = 3;
 
 // Where in a record the origin stands.
 pub const ORIGIN_OFFSET: usize = 1;

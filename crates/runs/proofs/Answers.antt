@@ -215,7 +215,7 @@ module _ (ws : List ℕ) (k : ℕ) (s : List ℤ) {b : Begun} (t : Trial ws k s 
       let ok = action-ok in
       rw (t .is-begun) (record {
         guards-few = omega (arith, ok .guards .few);
-        guards = λ i. read-small (guards-read (length gs) (actionOf (t .program) k .guards) (ok .guards .each) i);
+        guards = λ i. read-small (guards-read 14 (length gs) (actionOf (t .program) k .guards) (ok .guards .each) i);
         rows = λ i. read-small (new-rows-read (length gs) (actionOf (t .program) k .sets) (ok .rising) i);
         old = state-small gs s (8 - length s) (well-formed .ranges .each) (at .inside .long) (omega (arith, at .inside .none-off));
         ranges = ranges-small gs (well-formed .ranges .each);

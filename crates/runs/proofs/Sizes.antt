@@ -86,8 +86,8 @@ each-read : (vars : ℕ) (rs : List Row) → Each (RowOk vars) rs → Each Read 
 each-read vars [] p = tt
 each-read vars (r ∷ rs) p = (row-read (p .0), each-read vars rs (p .1))
 
-pub guards-read : (vars : ℕ) (rs : List Row) → Each (RowOk vars) rs → ReadRows (sets zeroRows 0 rs)
-guards-read vars rs p = every-sets Read noRow zeroRows 0 rs (every-copy Read noRow 14 zeroRow (record { coefs = zeros-small; const = zero-within 1000000 }) no-row-read) (each-read vars rs p)
+pub guards-read : (n vars : ℕ) (rs : List Row) → Each (RowOk vars) rs → ReadRows (sets (replicate n zeroRow) 0 rs)
+guards-read n vars rs p = every-sets Read noRow (replicate n zeroRow) 0 rs (every-copy Read noRow n zeroRow (record { coefs = zeros-small; const = zero-within 1000000 }) no-row-read) (each-read vars rs p)
 
 keep-read : (v : ℕ) → Read (keepRow v)
 keep-read v = record { coefs = every-set (Within 1000) (pos 0) (replicate 8 (pos 0)) v (pos 1) zeros-small (literal tt tt); const = zero-within 1000000 }

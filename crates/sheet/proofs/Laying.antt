@@ -25,8 +25,9 @@ use Rattle.sets.specs.Sets.{clashes}
 use Rattle.gather.specs.Gathering.{successorOf, missing}
 use Rattle.search.specs.Search.{Graph}
 use Rattle.search.proofs.Count.{eq-or-ne}
-use Rattle.verdict.specs.Verdicts.{Finding, Forbid, unless, findingsAt, findingsFrom}
-use Rattle.verdict.specs.Working.{given}
+use Rattle.verdict.specs.Verdicts.{Finding, Forbid, RunOff, unless, findingsAt, findingsFrom}
+use Rattle.verdict.specs.Working.{given, foundOf}
+use Rattle.verdict.specs.declared.Found.the-variants.{Nothing}
 use Rattle.sheet.specs.Sheets.{findingWord}
 use Rattle.sheet.specs.Laying.{Laid, endAt, free, missed, offs}
 
@@ -111,3 +112,12 @@ module _ (p : Program) (ls : List Lemma) (g : Graph) (nodes k : ℕ) where
   pub findings-end : nodes ≤ k → findingsFrom p ls g k (nodes - k) ≡ []
   unfolding findingsFrom
   findings-end h = let e : nodes - k ≡ 0 = omega arith in rw e refl
+
+-- ---- a node with nothing to find
+pub none-found : (fs : List Finding) → Nothing ≡ foundOf fs → fs ≡ []
+none-found [] e = refl
+none-found (Forbid k b ∷ fs) e = let z : _≡_ {A = ℕ} 0 1 = cc in absurd (omega arith)
+none-found (RunOff k j v high ∷ fs) e = let z : _≡_ {A = ℕ} 0 1 = cc in absurd (omega arith)
+
+pub laid-nothing : (fs : List Finding) (l : List ℕ) (i : ℕ) → fs ≡ [] → Laid fs l i l i
+laid-nothing fs l i e = rw e (record { places = omega arith; words = refl })

@@ -10,8 +10,11 @@ ghost use Rattle.lemmas.specs.Lemmas.{Lemma};
 ghost use Rattle.gather.specs.Gathering.{entries};
 ghost use Rattle.search.specs.Search.{Graph, count};
 ghost use Rattle.records.specs.Records.{mostNodes, graphWords};
+ghost use Rattle.block.specs.Blocks.{tableWords};
 ghost use Rattle.verdict.specs.Verdicts.{Forbid, findingsAt, findings};
-ghost use Rattle.verdict.specs.Working.{Judging};
+ghost use Rattle.verdict.specs.Working.{Judging, foundOf};
+ghost use Rattle.verdict.specs.declared.Found.the-variants.{Nothing};
+ghost use Rattle.sets.specs.Sets.{Member};
 ghost use Rattle.sheet.specs.Sheets.{findingWord};
 ghost use Rattle.sheet.specs.Laying.{Laid, endAt, free, missed, offs};
 use words::Kind;
@@ -145,8 +148,51 @@ fn lay_at(
     lay_off(asked, known, actions, k, &mut *list, at)
 }
 
+// The same at node k. Where its bit is in `passed` there is nothing.
+fn lay_in(
+    premises: &[u32],
+    keys: &[u32],
+    n: usize,
+    literals: [Literals; 8],
+    forbidden: usize,
+    asked: [u64; 16],
+    kept: &[u32],
+    actions: usize,
+    graph: &[u32],
+    k: usize,
+    passed: u64,
+    list: &mut [u32],
+    i: usize,
+) -> usize
+    requires { ⌜ (n ≤ length (now premises)) × (n ≤ length (now keys)) × (16 ≤ length (now kept)) × (forbidden ≤ mostForbidden)
+        × (actions ≤ mostActions) × (graphWords ≤ length (now graph)) × (k < mostNodes) × (i ≤ k * 264) ⌝ }
+    ensures { λ r. ⌜ (r ≤ (k + 1) * 264)
+        × ((p : Program) (ls : List Lemma) (g : Graph)
+        → Judging p ls g (entries (now (premises .entry)) (now (keys .entry)) n) literals forbidden asked (now (kept .entry)) actions
+        (now (graph .entry)) → k < count g → (Member (k % 64) passed → Nothing ≡ foundOf (findingsAt p ls g k))
+        → Laid (findingsAt p ls g k) (now (list .entry)) i (now (list .exit)) r) ⌝ }
+{
+    if (passed >> (k % 64)) % 2 == 1 {
+        return i;
+    }
+    lay_at(
+        premises,
+        keys,
+        n,
+        literals,
+        forbidden,
+        asked,
+        kept,
+        actions,
+        graph,
+        k,
+        &mut *list,
+        i,
+    )
+}
+
 // All findings of a graph, of a program's forbidden combinations and the ends that its actions have to keep to; `kept` has the masks of what each
-// action keeps. How many there are, whether or not the list has room for all.
+// action keeps, and `scratch` is worked in. How many there are, whether or not the list has room for all.
 pub fn lay(
     premises: &[u32],
     keys: &[u32],
@@ -159,17 +205,35 @@ pub fn lay(
     graph: &[u32],
     nodes: usize,
     list: &mut [u32],
+    scratch: &mut [u64],
 ) -> usize
     requires { ⌜ (n ≤ length (now premises)) × (n ≤ length (now keys)) × (16 ≤ length (now kept)) × (forbidden ≤ mostForbidden)
-        × (actions ≤ mostActions) × (graphWords ≤ length (now graph)) × (nodes ≤ mostNodes) ⌝ }
+        × (actions ≤ mostActions) × (graphWords ≤ length (now graph)) × (nodes ≤ mostNodes) × (tableWords ≤ length (now scratch)) ⌝ }
     ensures { λ r. ⌜ ((p : Program) (ls : List Lemma) (g : Graph)
         → Judging p ls g (entries (now (premises .entry)) (now (keys .entry)) n) literals forbidden asked (now (kept .entry)) actions
         (now (graph .entry)) → nodes ≡ count g → Laid (findings p ls g) (now (list .entry)) 0 (now (list .exit)) r) ⌝ }
 {
+    let mut passed: u64 = 0;
     let mut at: usize = 0;
     let mut k: usize = 0;
     while k < nodes {
-        at = lay_at(
+        if k % 64 == 0 {
+            passed = verdict::clean(
+                premises,
+                keys,
+                n,
+                literals,
+                forbidden,
+                asked,
+                kept,
+                actions,
+                graph,
+                nodes,
+                k,
+                &mut *scratch,
+            );
+        }
+        at = lay_in(
             premises,
             keys,
             n,
@@ -180,6 +244,7 @@ pub fn lay(
             actions,
             graph,
             k,
+            passed,
             &mut *list,
             at,
         );

@@ -18,12 +18,13 @@ use Rattle.programs.specs.declared.Loaded.{Loaded}
 use Rattle.programs.specs.declared.Status.{Status}
 use Rattle.programs.specs.declared.Status.the-variants.{Ready as IsReady, Failed}
 use Rattle.lemmas.specs.Lemmas.{Lemma, largestOf}
-use Rattle.lemmas.specs.LemmaGrammar.{readLemmas}
-use Rattle.lemmas.specs.Sources.{theProgram, listed}
+use Rattle.grammar.specs.WellFormed.{Few}
+use Rattle.lemmas.specs.LemmaGrammar.{readLemmas, LemmaOk}
+use Rattle.lemmas.specs.Sources.{theProgram, listed, ListedAs}
 use Rattle.lemmas.specs.declared.Listed.{Listed}
 use Rattle.lemmas.proofs.SourceLaws.{counts}
 use Rattle.frame.specs.Masks.{maskOf, masksOf}
-use Rattle.gather.specs.Gathering.{entryOf}
+use Rattle.gather.specs.Gathering.{entryOf, entries}
 use Rattle.search.specs.Search.{Graph, Result, Done, Over, count, links}
 use Rattle.records.specs.Records.{graphList}
 use Rattle.records.specs.Steps.{exploredOf}
@@ -39,7 +40,7 @@ use Rattle.tables.specs.Tabled.{lemmasOr, theLemmas, Begun, Tabled}
 use Rattle.tables.specs.Off.{firstOff}
 use Rattle.tables.specs.declared.Tables.{Tables}
 use Rattle.survey.specs.Surveys.{stops, draws, surveyGraph, surveyLemmas, surveyProgram}
-use Rattle.survey.specs.Ready.{entriesOf, Complete, SurveyBy, SurveyOf}
+use Rattle.survey.specs.Ready.{Complete, SurveyBy, SurveyOf}
 use Rattle.survey.specs.declared.Surveyed.{Surveyed}
 
 first-off-le : (p : Program) (ls : List Lemma) → firstOff p ls ≤ length ls
@@ -70,14 +71,14 @@ module _ (ws lemmas gl : List ℕ) where
   abbrev Refuses : Refusal → List ℕ → Type 0
   Refuses r gl′ = surveyProgram (read ws) lemmas gl ≡ stops r gl′
 
-  pub refuses : (s : Surveyed) {r : Refusal} {gl′ : List ℕ} → s .status ≡ Failed r → Refuses r gl′ → SurveyOf ws lemmas gl gl′ s
-  refuses s {r} {gl′} e h = subst (λ (x : Status). SurveyBy x ws lemmas gl gl′ s) (sym e) h
+  pub refuses : (s : Surveyed) {r : Refusal} {gl′ : List ℕ} (ps ks : List ℕ) → s .status ≡ Failed r → Refuses r gl′ → SurveyOf ws lemmas gl gl′ ps ks s
+  refuses s {r} {gl′} ps ks e h = subst (λ (x : Status). SurveyBy x ws lemmas gl gl′ ps ks s) (sym e) h
 
   module _ {x : Loaded} (e : x ≡ loaded (read ws)) where
     pub no-program : {r : Refusal} → x .status ≡ Failed r → Refuses r gl
     no-program h = ap (λ (m : Read Program). surveyProgram m lemmas gl) (read-refused ws e h)
 
-    module _ (k : Program-read ws e) {y : Listed} (l : y ≡ listed (readLemmas (theProgram ws) lemmas)) where
+    module _ (k : Program-read ws e) (ns begins : List ℕ) (y : Listed) (l : ListedAs (listed ns (readLemmas (theProgram ws) lemmas)) y begins) where
       abbrev p : Program
       p = theProgram ws
 
@@ -88,45 +89,53 @@ module _ (ws lemmas gl : List ℕ) where
       program-is = ap (λ (m : Read Program). surveyProgram m lemmas gl) (k .is)
 
       pub no-lemmas : {r : Refusal} → y .status ≡ Failed r → Refuses r gl
-      no-lemmas h = program-is ∙ ap (λ (m : Read (List Lemma)). surveyLemmas p m gl) (lemmas-refused ws p (k .is) (k .held .accepted .good) lemmas l 0 h)
+      no-lemmas h = program-is ∙ ap (λ (m : Read (List Lemma)). surveyLemmas p m gl) (lemmas-refused ws p (k .is) (k .held .accepted .good) lemmas ns begins y l 0 h)
 
       module _ (h : y .status ≡ IsReady) where
-        found : (i : ℕ) → Lemmas-read ws p (k .is) (k .held .accepted .good) lemmas l i
-        found i = lemmas-read ws p (k .is) (k .held .accepted .good) lemmas l i h
+        found : (i : ℕ) → Lemmas-read ws p (k .is) (k .held .accepted .good) lemmas ns begins y l i
+        found i = lemmas-read ws p (k .is) (k .held .accepted .good) lemmas ns begins y l i h
 
         list-is : readLemmas p lemmas ≡ got ls (found 0 .rest) (found 0 .index)
         list-is = found 0 .is ∙ ap (λ (m : List Lemma). got m (found 0 .rest) (found 0 .index)) (sym (ap lemmasOr (found 0 .is)))
 
-        pub begun : Begun p lemmas (y .«begin_at») (y .count) ls
-        begun =
-            let same : ls ≡ found 0 .list = ap lemmasOr (found 0 .is) in
+        same-list : ls ≡ found 0 .list
+        same-list = ap lemmasOr (found 0 .is)
+
+        counted-is : y .count ≡ length ls
+        counted-is = found 0 .counted ∙ ap length (sym same-list)
+
+        good-are : Few 512 (LemmaOk p) ls
+        good-are = rw same-list (good ws p (k .is) (k .held .accepted .good) lemmas ns begins y l 0 (found 0))
+
+        pub begun : 512 ≤ length ns → Begun p lemmas begins (y .count) ls
+        begun wide =
             let ok = k .held .accepted .good in
             record {
-              counted = found 0 .counted ∙ ap length (sym same);
-              good = rw same (good ws p (k .is) ok lemmas l 0 (found 0));
+              counted = counted-is;
+              good = good-are;
               here = λ i m. (
-                is-lemma ws p (k .is) ok lemmas l i (found i) m,
-                lemma-is ws p (k .is) ok lemmas l i (found i) m ∙ ap (λ (ls : List Lemma). getD ls i noLemma) (sym (ap lemmasOr (found i .is))),
+                is-lemma ws p (k .is) ok lemmas ns begins y l i (found i) wide m,
+                lemma-is ws p (k .is) ok lemmas ns begins y l i (found i) wide m ∙ ap (λ (ls : List Lemma). getD ls i noLemma) (sym (ap lemmasOr (found i .is))),
               );
             }
 
-        module _ {t : Tables} (T : Tabled p ls t) where
+        module _ {t : Tables} {ps ks : List ℕ} (T : Tabled p ls ps ks t) where
           lemmas-are : surveyProgram (read ws) lemmas gl ≡ surveyLemmas p (got ls (found 0 .rest) (found 0 .index)) gl
           lemmas-are = program-is ∙ ap (λ (m : Read (List Lemma)). surveyLemmas p m gl) list-is
 
           pub sum-off : t .off < y .count → Refuses (Sum (t .off)) gl
           sum-off o =
-              let off : firstOff p ls < length ls = omega (arith, T .off, begun .counted) in
+              let off : firstOff p ls < length ls = omega (arith, T .off, counted-is) in
               lemmas-are ∙ rw (lt-ltb (firstOff p ls) (length ls) off, T .off) refl
 
           module _ (n : y .count ≤ t .off) where
             none-off : t .off ≡ length ls
-            none-off = omega (arith, T .off, begun .counted, first-off-le p ls)
+            none-off = omega (arith, T .off, counted-is, first-off-le p ls)
 
             weighed : surveyProgram (read ws) lemmas gl ≡ surveyGraph p ls (graph p ls) gl
             weighed = lemmas-are ∙ rw (le-ltb (firstOff p ls) (length ls) (omega (arith, T .off, none-off))) refl
 
-            tables-are : entriesOf t ≡ map entryOf (claims p ls)
+            tables-are : entries ps ks (t .count) ≡ map entryOf (claims p ls)
             tables-are = T .same none-off
 
             actions-are : x .image .actions ≡ length (p .actions)
@@ -135,10 +144,10 @@ module _ (ws lemmas gl : List ℕ) where
             pub actions-few : x .image .actions ≤ 16
             actions-few = omega (arith, actions-are, counts ws (k .held) 0 .5)
 
-            module _ {masks : List ℕ} (kept : masks ≡ masksOf p) {z : Explored} {l′ : List ℕ} (ex : z ≡ exploredOf (graphOf (entriesOf t) masks (x .image .actions)))
-                (el : l′ ≡ graphList (x .image .actions) (graphOf (entriesOf t) masks (x .image .actions)) gl) where
-              graph-is : graphOf (entriesOf t) masks (x .image .actions) ≡ graph p ls
-              graph-is = rw (tables-are, kept, actions-are) (same-graph p (k .held .accepted .good) ls (begun .good .each))
+            module _ {masks : List ℕ} (kept : masks ≡ masksOf p) {z : Explored} {l′ : List ℕ} (ex : z ≡ exploredOf (graphOf (entries ps ks (t .count)) masks (x .image .actions)))
+                (el : l′ ≡ graphList (x .image .actions) (graphOf (entries ps ks (t .count)) masks (x .image .actions)) gl) where
+              graph-is : graphOf (entries ps ks (t .count)) masks (x .image .actions) ≡ graph p ls
+              graph-is = rw (tables-are, kept, actions-are) (same-graph p (k .held .accepted .good) ls (good-are .each))
 
               left-is : (r : Result) → graph p ls ≡ r → l′ ≡ graphList (length (p .actions)) r gl
               left-is r q = el ∙ (λ i. graphList (actions-are i) (graph-is i) gl) ∙ ap (λ (m : Result). graphList (length (p .actions)) m gl) q
@@ -149,17 +158,17 @@ module _ (ws lemmas gl : List ℕ) where
                   weighed ∙ ap (λ (r : Result). surveyGraph p ls r gl) o ∙ ap (stops Nodes) (sym (left-is Over o))
 
               pub complete : {nodes edges : ℕ} → z ≡ Whole nodes edges
-                  → Complete p ls ws lemmas gl l′ (record { status = IsReady; image = x .image; tables = t; kept = masks; nodes = nodes; edges = edges })
+                  → Complete p ls ws lemmas gl l′ ps ks (record { status = IsReady; image = x .image; count = t .count; kept = masks; nodes = nodes; edges = edges })
               complete {nodes} {edges} w =
                   let g = done-whole (graph p ls) nodes edges (ap exploredOf (sym graph-is) ∙ sym ex ∙ w) in
                   record {
                     held = k .held;
-                    tabled = T;
+                    few = T .few;
                     masks = kept;
                     made = g .made;
                     ready = record {
                       good = k .held .accepted .good;
-                      each = begun .good .each;
+                      each = good-are .each;
                       is = g .done;
                       nodes-are = g .nodes-are;
                       edges-are = g .edges-are;

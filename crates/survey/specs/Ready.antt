@@ -1,12 +1,12 @@
 -- What a survey leaves to be judged. Only contracts of functions within the project cite these.
 --
 -- Ready     — a list holds the graph of a program and its lemmas, whose accepted ones these tables hold
--- entriesOf — the accepted lemmas that tables hold
--- Complete  — image, tables, masks and counts of a survey are those of the show in two lists of words, and the graph list holds its graph
+-- Complete  — image, masks and counts of a survey are those of the show in two lists of words, the lists of premises and keys hold its accepted lemmas,
+--             and the graph list holds its graph
 -- SurveyBy, SurveyOf — what the survey of two lists of words comes to, by its status: complete, or stopped by the refusal
 use mathlib.Core.Path.{_≡_}
 use mathlib.Core.List.{List, map}
-use Prim.Native.Nat.{ℕ}
+use Prim.Native.Nat.{ℕ, _≤_}
 use lib.ListN.{length}
 use Rattle.grammar.specs.Programs.{Program}
 use Rattle.grammar.specs.WellFormed.{Each, WellFormed}
@@ -23,8 +23,7 @@ use Rattle.search.specs.Search.{Graph, Done, count, links}
 use Rattle.records.specs.Records.{graphList}
 use Rattle.abstraction.specs.Abstraction.{graph}
 use Rattle.abstraction.specs.Claims.{claims}
-use Rattle.tables.specs.Tabled.{theLemmas, Tabled}
-use Rattle.tables.specs.declared.Tables.{Tables}
+use Rattle.tables.specs.Tabled.{theLemmas}
 use Rattle.survey.specs.Surveys.{stops, draws, surveyProgram}
 use Rattle.survey.specs.declared.Surveyed.{Surveyed}
 
@@ -38,21 +37,18 @@ pub record Ready (p : Program) (ls : List Lemma) (g : Graph) (es : List Entry) (
   pub before : List ℕ
   pub listed : l ≡ graphList (length (p .actions)) (Done g) before
 
-abbrev pub entriesOf : Tables → List Entry
-entriesOf t = entries (t .premises) (t .keys) (t .count)
-
-pub record Complete (p : Program) (ls : List Lemma) (ws lemmas gl gl′ : List ℕ) (s : Surveyed) : Type 0 where
+pub record Complete (p : Program) (ls : List Lemma) (ws lemmas gl gl′ ps ks : List ℕ) (s : Surveyed) : Type 0 where
   pub held : Held ws (s .image)
-  pub tabled : Tabled p ls (s .tables)
+  pub few : (s .count ≤ length ps) × (s .count ≤ length ks)
   pub masks : s .kept ≡ masksOf p
   pub made : Graph
-  pub ready : Ready p ls made (entriesOf (s .tables)) (s .nodes) (s .edges) gl′
+  pub ready : Ready p ls made (entries ps ks (s .count)) (s .nodes) (s .edges) gl′
   pub drawn : surveyProgram (read ws) lemmas gl ≡ draws p ls made gl′
 
--- the graph list was `gl` and is `gl′`
-abbrev pub SurveyBy : Status → List ℕ → List ℕ → List ℕ → List ℕ → Surveyed → Type 0
-SurveyBy IsReady ws lemmas gl gl′ s = Complete (theProgram ws) (theLemmas (theProgram ws) lemmas) ws lemmas gl gl′ s
-SurveyBy (Failed r) ws lemmas gl gl′ s = surveyProgram (read ws) lemmas gl ≡ stops r gl′
+-- the graph list was `gl` and is `gl′`; the premises and keys are in `ps` and `ks`
+abbrev pub SurveyBy : Status → List ℕ → List ℕ → List ℕ → List ℕ → List ℕ → List ℕ → Surveyed → Type 0
+SurveyBy IsReady ws lemmas gl gl′ ps ks s = Complete (theProgram ws) (theLemmas (theProgram ws) lemmas) ws lemmas gl gl′ ps ks s
+SurveyBy (Failed r) ws lemmas gl gl′ ps ks s = surveyProgram (read ws) lemmas gl ≡ stops r gl′
 
-abbrev pub SurveyOf : List ℕ → List ℕ → List ℕ → List ℕ → Surveyed → Type 0
-SurveyOf ws lemmas gl gl′ s = SurveyBy (s .status) ws lemmas gl gl′ s
+abbrev pub SurveyOf : List ℕ → List ℕ → List ℕ → List ℕ → List ℕ → List ℕ → Surveyed → Type 0
+SurveyOf ws lemmas gl gl′ ps ks s = SurveyBy (s .status) ws lemmas gl gl′ ps ks s

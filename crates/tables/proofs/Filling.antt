@@ -8,7 +8,7 @@ use native.Mathlib.Numerals.{add-one}
 use native.Mathlib.Nat.{zero-add, add-zero}
 use lib.IntN.{ℤ, pos}
 use lib.Signed.{ltZ}
-use lib.ListN.{length, getD, set, take, drop, replicate, length-set, drop-of-length-le}
+use lib.ListN.{length, getD, set, take, drop, length-set, drop-of-length-le}
 use lib.Seq.{drop-cons, take-suc, take-all}
 use Rattle.words.specs.Words.{bits, payload}
 use Rattle.rows.specs.declared.Exact.{Exact}
@@ -68,18 +68,18 @@ one-small false = omega arith
 pub record Filling (p : Program) (ls : List Lemma) (ps ks : List ℕ) (n k : ℕ) : Type 0 where
   pub within : k ≤ length ls
   pub few : n ≤ k
-  pub long-premises : length ps ≡ 512
-  pub long-keys : length ks ≡ 512
+  pub long-premises : 512 ≤ length ps
+  pub long-keys : 512 ≤ length ks
   pub none-off : k + firstOff p (drop k ls) ≡ firstOff p ls
   pub same : entries ps ks n ≡ map entryOf (claims p (take k ls))
 
 module _ (p : Program) (ok : WellFormed p) (ws begin : List ℕ) (count : ℕ) (ls : List Lemma) (b : Begun p ws begin count ls) where
-  pub filling-none : Filling p ls (replicate 512 0) (replicate 512 0) 0 0
+  pub filling-none : {ps ks : List ℕ} → 512 ≤ length ps → 512 ≤ length ks → Filling p ls ps ks 0 0
   unfolding entries claims
-  filling-none = record { within = omega arith; few = omega arith; long-premises = refl; long-keys = refl; none-off = zero-add (firstOff p ls); same = refl }
+  filling-none wide long = record { within = omega arith; few = omega arith; long-premises = wide; long-keys = long; none-off = zero-add (firstOff p ls); same = refl }
 
   module _ {ps ks : List ℕ} {n k : ℕ} (t : Filling p ls ps ks n k) where
-    pub filling-all : k ≡ count → Tabled p ls (record { premises = ps; keys = ks; count = n; off = k })
+    pub filling-all : k ≡ count → Tabled p ls ps ks (record { count = n; off = k })
     unfolding firstOff
     filling-all e =
         let all : length ls ≤ k = omega (arith, b .counted) in
@@ -110,7 +110,7 @@ module _ (p : Program) (ok : WellFormed p) (ws begin : List ℕ) (count : ℕ) (
         weight : x ≡ exact (largestOf p here)
         weight = rw (b .here k l .1) at e
 
-        pub turn-off : x ≡ Off → Tabled p ls (record { premises = ps; keys = ks; count = 0; off = k })
+        pub turn-off : x ≡ Off → Tabled p ls ps ks (record { count = 0; off = k })
         turn-off q =
             let f = off-tests (largestOf p here) (in64 (largestOf p here)) refl (sym weight ∙ q) in
             let g = rw (first-here, f) at (t .none-off) in
@@ -131,8 +131,8 @@ module _ (p : Program) (ok : WellFormed p) (ws begin : List ℕ) (count : ℕ) (
             record {
               within = omega (arith, known);
               few = rw more-is (omega (arith, t .few, one-small (accepted p here)));
-              long-premises = length-set ps n premises ∙ t .long-premises;
-              long-keys = length-set ks n key ∙ t .long-keys;
+              long-premises = omega (arith, length-set ps n premises, t .long-premises);
+              long-keys = omega (arith, length-set ks n key, t .long-keys);
               none-off = rw (add-one k) (omega (arith, g));
               same = rw (premises-is, key-is, more-is, add-one k, take-suc ls k noLemma known, claims-snoc p (take k ls) here)
                   (written ps ks n (claimOf here) (claims p (take k ls)) (accepted p here) (omega (arith, t .long-premises, turn-few)) (omega (arith, t .long-keys, turn-few)) (t .same));

@@ -2,7 +2,7 @@
 --
 -- lemmasOr, theLemmas — the lemmas that a list of words is; none where it is no lemma list
 -- Begun               — a list is these lemmas, and where each begins
--- Tabled              — the tables of these lemmas
+-- Tabled              — the lists of premises and keys, and what is said of them, are those of these lemmas
 use mathlib.Core.Path.{_≡_}
 use mathlib.Core.List.{List, [], map}
 use Prim.Native.Nat.{ℕ, _≤_, _<_}
@@ -33,7 +33,7 @@ pub record Begun (p : Program) (ws begin : List ℕ) (count : ℕ) (ls : List Le
   pub good : Few mostLemmas (LemmaOk p) ls
   pub here : (k : ℕ) → k < count → IsLemma p ws (getD begin k 0) × (theLemma p ws (getD begin k 0) ≡ getD ls k noLemma)
 
-pub record Tabled (p : Program) (ls : List Lemma) (t : Tables) : Type 0 where
+pub record Tabled (p : Program) (ls : List Lemma) (ps ks : List ℕ) (t : Tables) : Type 0 where
   pub off : t .off ≡ firstOff p ls
-  pub few : (t .count ≤ length (t .premises)) × (t .count ≤ length (t .keys))
-  pub same : t .off ≡ length ls → entries (t .premises) (t .keys) (t .count) ≡ map entryOf (claims p ls)
+  pub few : (t .count ≤ length ps) × (t .count ≤ length ks)
+  pub same : t .off ≡ length ls → entries ps ks (t .count) ≡ map entryOf (claims p ls)

@@ -2,6 +2,7 @@
 ghost use mathlib.Core.Path.{_≡_};
 ghost use Prim.Native.Nat.{_+_, _*_, _≤_};
 ghost use lib.IntN.{pos};
+ghost use lib.ListN.{length};
 ghost use lib.Signed.{ltZ};
 ghost use Rattle.words.specs.Words.{bits};
 ghost use Rattle.lemmas.specs.Sources.{theProgram, Held, oneIf};
@@ -10,10 +11,8 @@ ghost use Rattle.tables.specs.Tabled.{theLemmas, Begun, Tabled};
 use programs::Image;
 use rows::Exact;
 
-// The premises and keys of the accepted lemmas, how many there are, and the lowest lemma whose sum leaves 64 bits (the number of lemmas if there is none).
+// How many lemmas are accepted, and the lowest lemma whose sum leaves 64 bits (the number of lemmas if there is none).
 pub struct Tables {
-    pub premises: [u32; 512],
-    pub keys: [u32; 512],
     pub count: usize,
     pub off: usize,
 }
@@ -32,43 +31,35 @@ fn one_if_below(z: i64) -> usize
     if z < 0 { 1 } else { 0 }
 }
 
-// Each lemma weighed, in order: every one is written behind the accepted ones, and counted if it is accepted itself.
+// Each lemma weighed, in order: the premises and the key of every one are written behind those of the accepted ones, and counted if it is accepted itself.
 pub fn tabulate(
     words: &[u32],
     image: Image,
     lemmas: &[u32],
-    begins: [usize; 512],
+    begins: &[u64],
     count: usize,
+    premises: &mut [u32],
+    keys: &mut [u32],
 ) -> Tables
-    requires { ⌜ Held (now words) image × Begun (theProgram (now words)) (now lemmas) begins count (theLemmas (theProgram (now words)) (now lemmas)) ⌝ }
-    ensures { λ r. ⌜ Tabled (theProgram (now (words .entry))) (theLemmas (theProgram (now (words .entry))) (now (lemmas .entry))) r ⌝ }
+    requires { ⌜ Held (now words) image × Begun (theProgram (now words)) (now lemmas) (now begins) count (theLemmas (theProgram (now words)) (now lemmas))
+        × (512 ≤ length (now begins)) × (512 ≤ length (now premises)) × (512 ≤ length (now keys)) ⌝ }
+    ensures { λ r. ⌜ Tabled (theProgram (now (words .entry))) (theLemmas (theProgram (now (words .entry))) (now (lemmas .entry)))
+        (now (premises .exit)) (now (keys .exit)) r ⌝ }
 {
     let t = lemmas::sources(words, image);
-    let mut premises = [0u32; 512];
-    let mut keys = [0u32; 512];
     let mut n: usize = 0;
     let mut k: usize = 0;
     while k < count {
-        let at = begins[k];
+        let at = begins[k] as usize;
         let w = reader::word_at(lemmas, at);
         let source = t[lemmas::slot(words::source(w))];
         let Exact::Value(z) = ask::weigh(words, image, source, lemmas, at) else {
-            return Tables {
-                premises,
-                keys,
-                count: 0,
-                off: k,
-            };
+            return Tables { count: 0, off: k };
         };
         premises[n] = reader::word_at(lemmas, at + 1) % 268435456;
         keys[n] = key_at(w);
         n += one_if_below(z);
         k += 1;
     }
-    Tables {
-        premises,
-        keys,
-        count: n,
-        off: k,
-    }
+    Tables { count: n, off: k }
 }

@@ -3,3 +3,4 @@ pub mod Combinations
 pub mod Ends
 pub mod Judging
 pub mod Needless
+pub mod Passing

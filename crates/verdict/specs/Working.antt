@@ -10,6 +10,7 @@
 -- given           — there is a successor
 -- endAt, firstUnshown — what the place of a missing end says; what is found at node k of the actions from j on
 -- Judging         — what the judge works on belongs to a program, a lemma list and their graph
+-- SetsFrom, Clean — of the 64 nodes from node k on: their sets; a bit for some with nothing to find
 use mathlib.Core.Path.{_≡_}
 use mathlib.Core.Bool.{Bool, true, false, cond}
 use mathlib.Core.List.{List, [], _∷_}
@@ -17,24 +18,25 @@ use Prim.Native.Nat.{ℕ, zero, suc, _+_, _-_, _/_, _%_, _<_, _≤_}
 use lib.Dec.{eqb, ltb}
 use lib.ListN.{length, getD, replicate}
 use lib.Seq.{sets}
-use Rattle.words.specs.Words.{noLiterals}
+use Rattle.words.specs.Words.{payload, noLiterals}
 use Rattle.words.specs.declared.Literals.{Literals}
 use Rattle.grammar.specs.Programs.{Action, Program}
 use Rattle.grammar.specs.WellFormed.{WellFormed}
 use Rattle.actions.specs.Results.{variablesSet, noneSet}
 use Rattle.programs.specs.Images.{tableOf}
 use Rattle.lemmas.specs.Lemmas.{Goal, goalNumber, Lemma}
-use Rattle.sets.specs.Sets.{clashes, pairsTo}
+use Rattle.sets.specs.Sets.{Member, clashes, pairsTo}
 use Rattle.gather.specs.Gathering.{Placed, Entry, placeOf, known, successorOf, firstMissing}
 use Rattle.gather.specs.declared.Successor.{Successor}
 use Rattle.gather.specs.declared.Successor.the-variants.{Set}
 use Rattle.gather.specs.declared.Successor.the-variants.{Nothing as NoSet}
+use Rattle.suspects.specs.Suspects.{Small}
 use Rattle.search.specs.Search.{Origin, Root, From, Graph, Done, count, origin}
 use Rattle.records.specs.Records.{originWord, mostNodes, recordPlace, graphList}
 use Rattle.records.specs.Steps.{originOffset}
 use Rattle.words.specs.LiteralSets.{literalsIn, has}
 use Rattle.abstraction.specs.Abstraction.{applies, successor}
-use Rattle.verdict.specs.Verdicts.{Finding, Forbid, RunOff, hasNext}
+use Rattle.verdict.specs.Verdicts.{Finding, Forbid, RunOff, hasNext, findingsAt}
 use Rattle.verdict.specs.declared.Found.{Found}
 use Rattle.verdict.specs.declared.Found.the-variants.{Nothing}
 use Rattle.verdict.specs.declared.Found.the-variants.{Forbid as MayForbid}
@@ -117,3 +119,16 @@ pub record Judging (p : Program) (ls : List Lemma) (g : Graph) (es : List Entry)
   pub applying : (source set : ℕ) (goal : Goal) (index : ℕ) → Placed (goalNumber goal) index → 28 ≤ placeOf (goalNumber goal) index
       → has (placeOf (goalNumber goal) index) (known (getD kept source 0) source set es) ≡ applies p ls source (literalsIn 14 set) goal index
   pub leading : (source set : ℕ) → given (successorOf (known (getD kept source 0) source set es)) ≡ hasNext (successor p ls source (literalsIn 14 set))
+
+-- ---- blocks of 64 nodes
+-- the sets of the nodes from k on, as far as there are nodes, of the first m places
+pub record SetsFrom (l : List ℕ) (actions k nodes m : ℕ) (w : List ℕ) : Type 0 where
+  pub long : length w ≡ 64
+  pub small : Small w
+  pub same : (i : ℕ) → i < m → k + i < nodes → getD w i 0 ≡ payload (getD l (recordPlace actions (k + i)) 0)
+
+-- at the nodes with a bit, of those from k on, there is nothing to find
+abbrev pub Clean : List Entry → List Literals → ℕ → List ℕ → List ℕ → ℕ → List ℕ → ℕ → ℕ → ℕ → Type 0
+Clean es literals forbidden asked kept actions l nodes k r =
+    (p : Program) (ls : List Lemma) (g : Graph) → Judging p ls g es literals forbidden asked kept actions l → nodes ≡ count g
+    → (i : ℕ) → i < 64 → k + i < nodes → Member i r → Nothing ≡ foundOf (findingsAt p ls g (k + i))

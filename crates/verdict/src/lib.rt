@@ -12,6 +12,10 @@ ghost use Rattle.search.specs.Search.{Graph, Done, count};
 ghost use Rattle.records.specs.Records.{mostNodes, graphWords, graphList};
 ghost use Rattle.verdict.specs.Verdicts.{findingsAt, findings, pathWords, pathList, stepsTo};
 ghost use Rattle.verdict.specs.Working.{originAt, backAt, Traced, endsTo, askedEnds, foundOf, Within, firstFree, given, firstUnshown, Judging};
+ghost use Rattle.verdict.specs.Working.{SetsFrom, Clean};
+ghost use Rattle.verdict.specs.declared.Found.the-variants.{Nothing};
+ghost use Rattle.sets.specs.Sets.{Member};
+ghost use Rattle.block.specs.Blocks.{tableWords};
 use gather::Successor;
 use programs::Image;
 use words::Kind;
@@ -109,11 +113,12 @@ pub fn asked_ends(image: Image) -> [u64; 16]
     requires { ⌜ image .actions ≤ 16 ⌝ }
     ensures { λ r. ⌜ ((p : Program) → image ≡ imageOf p → r ≡ askedEnds p) ⌝ }
 {
+    let shapes = image.shapes;
     let mut asked = [0u64; 16];
     let actions = image.actions;
     let mut action: usize = 0;
     while action < actions {
-        let shape = image.shapes[action];
+        let shape = shapes[action];
         let set = shape.set;
         asked[action] = ends_of(set);
         action += 1;
@@ -207,8 +212,92 @@ fn found_at(
     first_unshown(asked, known, actions, k)
 }
 
+// The sets of up to 64 nodes from node k on.
+fn sets_from(graph: &[u32], nodes: usize, actions: usize, k: usize) -> [u32; 64]
+    requires { ⌜ (graphWords ≤ length (now graph)) × (nodes ≤ mostNodes) × (actions ≤ 16) × (k ≤ nodes) ⌝ }
+    ensures { λ r. ⌜ SetsFrom (now (graph .entry)) actions k nodes 64 r ⌝ }
+{
+    let mut w = [0u32; 64];
+    let mut i: usize = 0;
+    while i < 64 {
+        if k + i < nodes {
+            w[i] = records::word_at(graph, actions, k + i) % 268435456;
+        }
+        i += 1;
+    }
+    w
+}
+
+// Of the 64 nodes from node k on, a bit for those with nothing to find.
+pub fn clean(
+    premises: &[u32],
+    keys: &[u32],
+    n: usize,
+    literals: [Literals; 8],
+    forbidden: usize,
+    asked: [u64; 16],
+    kept: &[u32],
+    actions: usize,
+    graph: &[u32],
+    nodes: usize,
+    k: usize,
+    scratch: &mut [u64],
+) -> u64
+    requires { ⌜ (n ≤ length (now premises)) × (n ≤ length (now keys)) × (16 ≤ length (now kept)) × (forbidden ≤ 8) × (actions ≤ 16)
+        × (graphWords ≤ length (now graph)) × (nodes ≤ mostNodes) × (k ≤ nodes) × (tableWords ≤ length (now scratch)) ⌝ }
+    ensures { λ r. ⌜ Clean (entries (now (premises .entry)) (now (keys .entry)) n) literals forbidden asked (now (kept .entry)) actions
+        (now (graph .entry)) nodes k r ⌝ }
+{
+    if nodes - k < block::LEAST {
+        return 0;
+    }
+    let w = sets_from(graph, nodes, actions, k);
+    let columns = block::columns(&w);
+    block::gather_block(premises, keys, n, kept, &columns, &mut *scratch);
+    let opposed = suspects::all_opposed(&columns, literals, forbidden);
+    opposed & suspects::all_keep(&scratch[..], asked, actions)
+}
+
+// What is found first at node k. Where its bit is in `passed` there is nothing.
+fn found_in(
+    premises: &[u32],
+    keys: &[u32],
+    n: usize,
+    literals: [Literals; 8],
+    forbidden: usize,
+    asked: [u64; 16],
+    kept: &[u32],
+    actions: usize,
+    graph: &[u32],
+    k: usize,
+    passed: u64,
+) -> Found
+    requires { ⌜ (n ≤ length (now premises)) × (n ≤ length (now keys)) × (16 ≤ length (now kept)) × (forbidden ≤ 8) × (actions ≤ 16)
+        × (graphWords ≤ length (now graph)) × (k < mostNodes) ⌝ }
+    ensures { λ r. ⌜ Within (k + 1) r
+        × ((p : Program) (ls : List Lemma) (g : Graph)
+        → Judging p ls g (entries (now (premises .entry)) (now (keys .entry)) n) literals forbidden asked (now (kept .entry)) actions
+        (now (graph .entry)) → k < count g → (Member (k % 64) passed → Nothing ≡ foundOf (findingsAt p ls g k)) → r ≡ foundOf (findingsAt p ls g k)) ⌝ }
+{
+    if (passed >> (k % 64)) % 2 == 1 {
+        return Found::Nothing;
+    }
+    found_at(
+        premises,
+        keys,
+        n,
+        literals,
+        forbidden,
+        asked,
+        kept,
+        actions,
+        graph,
+        k,
+    )
+}
+
 // What is found first in a graph, of a program's forbidden combinations and the ends that its actions have to keep to; `kept` has the masks of what each
-// action keeps.
+// action keeps, and `scratch` is worked in.
 pub fn first_finding(
     premises: &[u32],
     keys: &[u32],
@@ -220,17 +309,35 @@ pub fn first_finding(
     actions: usize,
     graph: &[u32],
     nodes: usize,
+    scratch: &mut [u64],
 ) -> Found
     requires { ⌜ (n ≤ length (now premises)) × (n ≤ length (now keys)) × (16 ≤ length (now kept)) × (forbidden ≤ 8) × (actions ≤ 16)
-        × (graphWords ≤ length (now graph)) × (nodes ≤ mostNodes) ⌝ }
+        × (graphWords ≤ length (now graph)) × (nodes ≤ mostNodes) × (tableWords ≤ length (now scratch)) ⌝ }
     ensures { λ r. ⌜ Within nodes r
         × ((p : Program) (ls : List Lemma) (g : Graph)
         → Judging p ls g (entries (now (premises .entry)) (now (keys .entry)) n) literals forbidden asked (now (kept .entry)) actions
         (now (graph .entry)) → nodes ≡ count g → r ≡ foundOf (findings p ls g)) ⌝ }
 {
+    let mut passed: u64 = 0;
     let mut k: usize = 0;
     while k < nodes {
-        let found = found_at(
+        if k % 64 == 0 {
+            passed = clean(
+                premises,
+                keys,
+                n,
+                literals,
+                forbidden,
+                asked,
+                kept,
+                actions,
+                graph,
+                nodes,
+                k,
+                &mut *scratch,
+            );
+        }
+        let found = found_in(
             premises,
             keys,
             n,
@@ -241,6 +348,7 @@ pub fn first_finding(
             actions,
             graph,
             k,
+            passed,
         );
         match found {
             Found::Nothing => {

@@ -35,7 +35,7 @@ turn-of c =
     let f = l .before .before in
     let a = f .args in
     let i = l .loop .i in
-    let long : length (a .t2) ≡ 14 = search needs in
+    let long : length (a .t2) ≡ 8 = search needs in
     let m = length-take-le (a .n) (a .t2) (omega arith) in
     let e = getD-take (a .n) (a .t2) i noRow (omega arith) in
     row-turn (a .words .now) (a .t) (take (a .n) (a .t2)) i (l .loop .s) (l .loop .inv .1) (getD (a .t2) i noRow) e (f .pre .1 .1 i) (omega arith) (omega arith) (f .pre .0 .1)
@@ -56,7 +56,7 @@ returns : tie.Need-returns Inv-loop μ-loop
 returns c =
     let l = c .before .loop in
     let a = c .before .before .before .args in
-    let long : length (a .t2) ≡ 14 = search needs in
+    let long : length (a .t2) ≡ 8 = search needs in
     let m = length-take-le (a .n) (a .t2) (omega arith) in
     added-all (a .words .now) (a .t) (take (a .n) (a .t2)) (l .i) (l .s) (l .inv .1) (omega arith) (omega arith)
 

@@ -11,8 +11,17 @@ returns c =
     let s = c .before .before .before .before .before in
     short-graph (s .args .words .now) (s .args .lemmas .now) (s .args .graph .now) (s .args .list .now) (c .if1 .taken)
 
+slice-aggregate-survey : tie.Need-slice-aggregate-survey
+slice-aggregate-survey c = search needs
+
+slice-aggregate-survey-2 : tie.Need-slice-aggregate-survey-2
+slice-aggregate-survey-2 c = search needs
+
+slice-aggregate-survey-3 : tie.Need-slice-aggregate-survey-3
+slice-aggregate-survey-3 c = search needs
+
 survey-requires : tie.Need-survey-requires
-survey-requires c κs = search needs
+survey-requires c κs = (c .before .before .before .before .if1 .left, omega arith, omega arith, omega arith)
 
 enum-known-status : tie.Need-enum-known-status
 enum-known-status c = search needs
@@ -22,10 +31,9 @@ same-length c = search needs
 
 returns-2 : tie.Need-returns-2
 returns-2 c =
-    let q = c .before .before .before .before .before in
-    let e = q .before .before in
-    let s = e .before .before .before .before .before in
-    no-graph (s .args .words .now) (s .args .lemmas .now) (s .args .graph .now) (s .args .list .now) (e .if1 .left) (q .survey .result) (q .survey .ensures) (c .before .status .given .1)
+    let v = c .before .before .before .before .before .before .before .before in
+    let f = v .before .before .before .before .before .before .before .before .before .before in
+    no-graph (f .args .words .now) (f .args .lemmas .now) (f .args .graph .now) (f .args .list .now) (v .before .before .before .before .before .if1 .left) (v .survey .result) (v .survey .last .1 .1 .1 .0) (v .survey .last .1 .1 .1 .1 .0) (v .survey .ensures) (c .before .status .given .1)
 
 enum-told : tie.Need-enum-told
 enum-told c = search needs
@@ -37,21 +45,24 @@ slice-aggregate-list-all-2 : tie.Need-slice-aggregate-list-all-2
 slice-aggregate-list-all-2 c = search needs
 
 slice-aggregate-list-all-3 : tie.Need-slice-aggregate-list-all-3
-slice-aggregate-list-all-3 c = search (needs, c .before .before .before .before .before .before .before .before .before .before .before .survey .ok .1 .1 .1 .1 .0 .1 .1 .1 .0 .1)
+slice-aggregate-list-all-3 c = search needs
+
+slice-aggregate-list-all-4 : tie.Need-slice-aggregate-list-all-4
+slice-aggregate-list-all-4 c = search needs
 
 list-all-requires : tie.Need-list-all-requires
 list-all-requires c κs =
-    let t = c .before .before .before .before .before .before .before .before .before in
-    let q = t .before .before .before .before in
-    let e = q .before .before in
-    let s = e .before .before .before .before .before in
-    let w = complete (s .args .words .now) (s .args .lemmas .now) (s .args .graph .now) (s .args .list .now) (e .if1 .left) (q .survey .result) (q .survey .ensures) (t .enum-told .given .1) in (
+    let e = c .before .before .before .before .before .before .before .before in
+    let v = e .before .before .before .before .before .before .before in
+    let f = v .before .before .before .before .before .before .before .before .before .before in
+    let w = complete (f .args .words .now) (f .args .lemmas .now) (f .args .graph .now) (f .args .list .now) (v .before .before .before .before .before .if1 .left) (v .survey .result) (v .survey .last .1 .1 .1 .0) (v .survey .last .1 .1 .1 .1 .0) (v .survey .ensures) (e .enum-told .given .1) in (
       w .held,
       w .masks,
-      w .tabled .few .0,
-      w .tabled .few .1,
-      omega (arith, q .survey .kept .1 .1 .0, e .if1 .left),
-      (theLemmas (theProgram (s .args .words .now)) (s .args .lemmas .now), w .made, q .survey .result .edges, w .ready),
+      w .few .0,
+      w .few .1,
+      omega (arith, v .survey .kept .1 .1 .0, v .before .before .before .before .before .if1 .left),
+      (theLemmas (theProgram (f .args .words .now)) (f .args .lemmas .now), w .made, v .survey .result .edges, w .ready),
+      omega (arith, v .survey .kept .1 .1 .1 .1 .1 .0),
     )
 
 same-length-2 : tie.Need-same-length-2
@@ -62,20 +73,21 @@ same-length-3 c = search needs
 
 returns-3 : tie.Need-returns-3
 returns-3 c =
-    let l = c .before .before in
-    let t = l .before .before .before .before .before .before .before .before .before .before in
-    let q = t .before .before .before .before in
-    let e = q .before .before in
-    let s = e .before .before .before .before .before in
-    let w = complete (s .args .words .now) (s .args .lemmas .now) (s .args .graph .now) (s .args .list .now) (e .if1 .left) (q .survey .result) (q .survey .ensures) (t .enum-told .given .1) in
-    listed (s .args .words .now) (s .args .lemmas .now) (s .args .graph .now) (s .args .list .now) (e .if1 .left) (q .survey .result) (q .survey .ensures) (t .enum-told .given .1)
-    (l .list-all .ensures (theLemmas (theProgram (s .args .words .now)) (s .args .lemmas .now)) (w .made) (q .survey .result .edges) (w .ready) _)
+    let l = c .before .before .before in
+    let e = l .before .before .before .before .before .before .before .before .before in
+    let v = e .before .before .before .before .before .before .before in
+    let f = v .before .before .before .before .before .before .before .before .before .before in
+    let w = complete (f .args .words .now) (f .args .lemmas .now) (f .args .graph .now) (f .args .list .now) (v .before .before .before .before .before .if1 .left) (v .survey .result) (v .survey .last .1 .1 .1 .0) (v .survey .last .1 .1 .1 .1 .0) (v .survey .ensures) (e .enum-told .given .1) in
+    listed (f .args .words .now) (f .args .lemmas .now) (f .args .graph .now) (f .args .list .now) (v .before .before .before .before .before .if1 .left) (v .survey .result) (v .survey .last .1 .1 .1 .0) (v .survey .last .1 .1 .1 .1 .0) (v .survey .ensures) (e .enum-told .given .1) (l .list-all .ensures (theLemmas (theProgram (f .args .words .now)) (f .args .lemmas .now)) (w .made) (v .survey .result .edges) (w .ready) _)
 
 pub findings-spec : {M : Type 1} → statement M
 findings-spec =
     tie.close
     (tie.spec
     returns
+    slice-aggregate-survey
+    slice-aggregate-survey-2
+    slice-aggregate-survey-3
     survey-requires
     enum-known-status
     same-length
@@ -84,6 +96,7 @@ findings-spec =
     slice-aggregate-list-all
     slice-aggregate-list-all-2
     slice-aggregate-list-all-3
+    slice-aggregate-list-all-4
     list-all-requires
     same-length-2
     same-length-3

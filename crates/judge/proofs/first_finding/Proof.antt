@@ -1,3 +1,4 @@
+use native.Mathlib.Omega.{arith}
 use borrow.Author.Needs.{needs}
 use Rattle.lemmas.specs.Sources.{theProgram}
 use Rattle.survey.proofs.Surveying.{masks-long}
@@ -6,23 +7,26 @@ use Rattle.judge.proofs.first_finding.Statement.{statement}
 use Rattle.judge.proofs.first_finding.Tie as tie
 
 asked-ends-requires : tie.Need-asked-ends-requires
-asked-ends-requires c κs =
-    let s = c .before .before .before .before .before in
-    image-few (s .args .words .now) (s .pre .0) (s .pre .5 .0) (s .pre .5 .1) (s .pre .5 .3) .1
+asked-ends-requires c κs = let s = c .before .before .before .before .before .before in image-few (s .args .words .now) (s .pre .0) (s .pre .5 .0) (s .pre .5 .1) (s .pre .5 .3) .1
 
 first-finding-requires : tie.Need-first-finding-requires
 first-finding-requires c κs =
-    let s = c .before .before .before .before .before .before .before in
+    let s = c .before .before .before .before .before .before .before .before .before in
     let f = image-few (s .args .words .now) (s .pre .0) (s .pre .5 .0) (s .pre .5 .1) (s .pre .5 .3) in
-    (s .pre .2, s .pre .3, masks-long (theProgram (s .args .words .now)) (s .pre .1), f .0, f .1, s .pre .4, nodes-few (s .args .words .now) (s .pre .0) (s .pre .5 .0) (s .pre .5 .1) (s .pre .5 .3))
+    (s .pre .2, s .pre .3, masks-long (theProgram (s .args .words .now)) (s .pre .1), f .0, f .1, s .pre .4, nodes-few (s .args .words .now) (s .pre .0) (s .pre .5 .0) (s .pre .5 .1) (s .pre .5 .3), omega (arith, s .pre .6))
+
+same-length : tie.Need-same-length
+same-length c = search needs
 
 returns : tie.Need-returns
 returns c =
-    let a = c .before .before in
-    let s = a .before .before .before .before .before .before in
+    let q = c .before .before in
+    let a = q .before .before .before in
+    let s = a .before .before .before .before .before .before .before in
     let p = theProgram (s .args .words .now) in
     let asked = a .asked-ends .ensures p (s .pre .0 .same) in
-    (c .first-finding .ensures .0, λ ls g edges r. c .first-finding .ensures .1 p ls g (judging (s .args .words .now) (s .pre .0) ls g r asked (s .pre .1)) (r .nodes-are))
+    (q .first-finding .ensures .0, λ ls g edges r. q .first-finding .ensures .1 p ls g (judging (s .args .words .now) (s .pre .0) ls g r asked (s .pre .1)) (r .nodes-are))
 
 pub first-finding-spec : {M : Type 1} → statement M
-first-finding-spec = tie.close (tie.spec asked-ends-requires first-finding-requires returns)
+first-finding-spec =
+    tie.close (tie.spec asked-ends-requires first-finding-requires same-length returns)

@@ -1,7 +1,8 @@
 use Rattle.words.specs.Words.{payload}
-use mathlib.Core.Path.{refl, ap, _∙_}
+use mathlib.Core.Path.{_≡_, refl, ap, _∙_}
 use Prim.Native.Nat.{_-_, _≤_, _<_}
 use native.Mathlib.Omega.{arith}
+use lib.ListN.{length, length-set}
 use borrow.Author.Needs.{needs}
 use mir.Syntax.{w64}
 use mir.Val.{SFits}
@@ -15,30 +16,31 @@ use Rattle.tables.proofs.tabulate.Statement.{statement}
 use Rattle.tables.proofs.tabulate.Tie as tie
 
 abbrev Inv-loop : tie.InvT-loop
-Inv-loop words image lemmas count begins t premises₀ keys₀ n₀ k₀ premises keys n k = (k ≤ count) × Filling (theProgram words) (theLemmas (theProgram words) lemmas) premises keys n k
+Inv-loop words image lemmas begins count premises₀ keys₀ t n₀ k₀ premises keys n k =
+    (k ≤ count) × (length premises ≡ length premises₀) × (length keys ≡ length keys₀) × Filling (theProgram words) (theLemmas (theProgram words) lemmas) premises keys n k
 
 abbrev μ-loop : tie.MeasureT-loop
-μ-loop words image lemmas count begins t premises₀ keys₀ n₀ k₀ premises keys n k = count - k
+μ-loop words image lemmas begins count premises₀ keys₀ t n₀ k₀ premises keys n k = count - k
 
 few : (q : tie.In-loop Inv-loop μ-loop) → (q .before .loop .k < 512) × (q .before .loop .n < 512)
 few q =
     let l = q .before in
-    let f = l .before .before .before .before in
-    turn-few (theProgram (f .args .words .now)) (f .pre .0 .accepted .good) (f .args .lemmas .now) (f .args .t4) (f .args .count) (theLemmas (theProgram (f .args .words .now)) (f .args .lemmas .now)) (f .pre .1) (l .loop .inv .1) (q .loop-test .taken)
+    let f = l .before .before .before .before .before .before .before in
+    turn-few (theProgram (f .args .words .now)) (f .pre .0 .accepted .good) (f .args .lemmas .now) (f .args .begins .now) (f .args .count) (theLemmas (theProgram (f .args .words .now)) (f .args .lemmas .now)) (f .pre .1) (l .loop .inv .3) (q .loop-test .taken)
 
 sources-requires : tie.Need-sources-requires Inv-loop μ-loop
 sources-requires c κs = search needs
 
 loop-holds : tie.Need-loop-holds Inv-loop μ-loop
 loop-holds c =
-    let f = c .before .before .before in
-    (omega arith, filling-none (theProgram (f .args .words .now)) (f .pre .0 .accepted .good) (f .args .lemmas .now) (f .args .t4) (f .args .count) (theLemmas (theProgram (f .args .words .now)) (f .args .lemmas .now)) (f .pre .1))
+    let f = c .before .before .before .before .before .before in
+    (omega arith, refl, refl, filling-none (theProgram (f .args .words .now)) (f .pre .0 .accepted .good) (f .args .lemmas .now) (f .args .begins .now) (f .args .count) (theLemmas (theProgram (f .args .words .now)) (f .args .lemmas .now)) (f .pre .1) (f .pre .3) (f .pre .4))
 
 mul-at : tie.Need-mul-at Inv-loop μ-loop
 mul-at c = let b = few c in omega arith
 
-array-read-at : tie.Need-array-read-at Inv-loop μ-loop
-array-read-at c = few c .0
+shared-slice-read-at : tie.Need-shared-slice-read-at Inv-loop μ-loop
+shared-slice-read-at c = omega (arith, few (c .before) .0, c .before .before .before .before .before .before .before .before .before .pre .2)
 
 word-at-requires : tie.Need-word-at-requires Inv-loop μ-loop
 word-at-requires c κs = search needs
@@ -58,9 +60,9 @@ array-copy-out-source c = c .slot .ensures .1
 weigh-requires : tie.Need-weigh-requires Inv-loop μ-loop
 weigh-requires c κs =
     let s = c .before in
-    let q = s .before .before .before in
+    let q = s .before .before .before .before in
     let l = q .before in
-    let f = l .before .before .before .before in
+    let f = l .before .before .before .before .before .before .before in
     (f .pre .0, f .pre .1 .here (l .loop .k) (q .loop-test .taken) .0, slot-read (sourceOf (theProgram (f .args .words .now))) (l .before .sources .result) _ (l .before .sources .ensures) (s .slot .ensures .0) (s .before .source .ensures) (s .before .before .word-at .ensures))
 
 enum-known-z : tie.Need-enum-known-z Inv-loop μ-loop
@@ -69,18 +71,24 @@ enum-known-z c = search needs
 enum-told : tie.Need-enum-told Inv-loop μ-loop
 enum-told c = search needs
 
+same-length : tie.Need-same-length Inv-loop μ-loop
+same-length c = search needs
+
+same-length-2 : tie.Need-same-length-2 Inv-loop μ-loop
+same-length-2 c = search needs
+
 returns : tie.Need-returns Inv-loop μ-loop
 returns c =
-    let q = c .before .before .before .before .before .before .before in
+    let q = c .before .before .before .before .before .before .before .before in
     let l = q .before in
-    let f = l .before .before .before .before in
-    turn-off (theProgram (f .args .words .now)) (f .pre .0 .accepted .good) (f .args .lemmas .now) (f .args .t4) (f .args .count) (theLemmas (theProgram (f .args .words .now)) (f .args .lemmas .now)) (f .pre .1) (l .loop .inv .1) (q .loop-test .taken) (c .before .before .weigh .ensures) (c .enum-told .given .1)
+    let f = l .before .before .before .before .before .before .before in
+    turn-off (theProgram (f .args .words .now)) (f .pre .0 .accepted .good) (f .args .lemmas .now) (f .args .begins .now) (f .args .count) (theLemmas (theProgram (f .args .words .now)) (f .args .lemmas .now)) (f .pre .1) (l .loop .inv .3) (q .loop-test .taken) (c .before .before .weigh .ensures) (c .enum-told .given .1)
 
 add-word-at : tie.Need-add-word-at Inv-loop μ-loop
 add-word-at c =
-    let q = c .before .before .before .before .before .before .before .before in
+    let q = c .before .before .before .before .before .before .before .before .before in
     let l = q .before in
-    let f = l .before .before .before .before in
+    let f = l .before .before .before .before .before .before .before in
     let r = room (theProgram (f .args .words .now)) (f .pre .0 .accepted .good) (f .args .lemmas .now) _ (f .pre .1 .here (l .loop .k) (q .loop-test .taken) .0) in
     omega (arith, f .good .1 .1 .0 .0)
 
@@ -88,27 +96,31 @@ word-at-requires-2 : tie.Need-word-at-requires-2 Inv-loop μ-loop
 word-at-requires-2 c κs = search needs
 
 mul-premises : tie.Need-mul-premises Inv-loop μ-loop
-mul-premises c = let b = few (c .before .before .before .before .before .before .before .before .before) in omega arith
+mul-premises c = omega (arith, few (c .before .before .before .before .before .before .before .before .before .before))
 
-array-write-premises : tie.Need-array-write-premises Inv-loop μ-loop
-array-write-premises c = few (c .before .before .before .before .before .before .before .before .before) .1
+slice-write-premises : tie.Need-slice-write-premises Inv-loop μ-loop
+slice-write-premises c =
+    let q = c .before .before .before .before .before .before .before .before .before .before in
+    omega (arith, few q .1, q .before .loop .inv .1, q .before .before .before .before .before .before .before .before .pre .3)
 
 key-at-requires : tie.Need-key-at-requires Inv-loop μ-loop
 key-at-requires c κs = search needs
 
 mul-keys : tie.Need-mul-keys Inv-loop μ-loop
-mul-keys c = let b = few (c .before .before .before .before .before .before .before .before .before .before) in omega arith
+mul-keys c = omega (arith, few (c .before .before .before .before .before .before .before .before .before .before .before))
 
-array-write-keys : tie.Need-array-write-keys Inv-loop μ-loop
-array-write-keys c = few (c .before .before .before .before .before .before .before .before .before .before) .1
+slice-write-keys : tie.Need-slice-write-keys Inv-loop μ-loop
+slice-write-keys c =
+    let q = c .before .before .before .before .before .before .before .before .before .before .before in
+    omega (arith, few q .1, q .before .loop .inv .2, q .before .before .before .before .before .before .before .before .pre .4)
 
 one-if-below-requires : tie.Need-one-if-below-requires Inv-loop μ-loop
 one-if-below-requires c κs = search needs
 
 add-n : tie.Need-add-n Inv-loop μ-loop
 add-n c =
-    let l = c .before .before .before .before .before .before .before .before .before .before .before .before in
-    omega (arith, c .one-if-below .ensures .1, l .loop .inv .1 .few, l .loop .inv .0, l .before .before .before .before .fits .count)
+    let l = c .before .before .before .before .before .before .before .before .before .before .before .before .before in
+    omega (arith, c .one-if-below .ensures .1, l .loop .inv .3 .few, l .loop .inv .0, l .before .before .before .before .before .before .before .fits .count)
 
 add-k : tie.Need-add-k Inv-loop μ-loop
 add-k c = search needs
@@ -120,16 +132,26 @@ loop-again : tie.Need-loop-again Inv-loop μ-loop
 loop-again c =
     let fits : SFits w64 (c .before .before .before .before .z .given .0 .0) = search needs in
     let a = c .before .before .before .before in
-    let q = a .before .before .before .before .before .before .before in
+    let q = a .before .before .before .before .before .before .before .before in
     let l = q .before in
-    let f = l .before .before .before .before in
-    (omega arith, turn-next (theProgram (f .args .words .now)) (f .pre .0 .accepted .good) (f .args .lemmas .now) (f .args .t4) (f .args .count) (theLemmas (theProgram (f .args .words .now)) (f .args .lemmas .now)) (f .pre .1) (l .loop .inv .1) (q .loop-test .taken) (a .before .before .weigh .ensures) (a .z .given .1) (ap payload (c .before .before .word-at2 .ensures)) (c .before .key-at .ensures ∙ rw (a .before .before .before .before .before .before .word-at .ensures) refl) (rw (toZ-ofZ fits) at (c .one-if-below .ensures .0)))
+    let f = l .before .before .before .before .before .before .before in (
+      omega arith,
+      length-set (l .loop .premises) (l .loop .n) _ ∙ l .loop .inv .1,
+      length-set (l .loop .keys) (l .loop .n) _ ∙ l .loop .inv .2,
+      turn-next (theProgram (f .args .words .now)) (f .pre .0 .accepted .good) (f .args .lemmas .now) (f .args .begins .now) (f .args .count) (theLemmas (theProgram (f .args .words .now)) (f .args .lemmas .now)) (f .pre .1) (l .loop .inv .3) (q .loop-test .taken) (a .before .before .weigh .ensures) (a .z .given .1) (ap payload (c .before .before .word-at2 .ensures)) (c .before .key-at .ensures ∙ rw (a .before .before .before .before .before .before .word-at .ensures) refl) (rw (toZ-ofZ fits) at (c .one-if-below .ensures .0)),
+    )
+
+same-length-3 : tie.Need-same-length-3 Inv-loop μ-loop
+same-length-3 c = search needs
+
+same-length-4 : tie.Need-same-length-4 Inv-loop μ-loop
+same-length-4 c = search needs
 
 returns-2 : tie.Need-returns-2 Inv-loop μ-loop
 returns-2 c =
     let l = c .before in
-    let f = l .before .before .before .before in
-    filling-all (theProgram (f .args .words .now)) (f .pre .0 .accepted .good) (f .args .lemmas .now) (f .args .t4) (f .args .count) (theLemmas (theProgram (f .args .words .now)) (f .args .lemmas .now)) (f .pre .1) (l .loop .inv .1) (omega (arith, l .loop .inv .0, c .loop-test .left))
+    let f = l .before .before .before .before .before .before .before in
+    filling-all (theProgram (f .args .words .now)) (f .pre .0 .accepted .good) (f .args .lemmas .now) (f .args .begins .now) (f .args .count) (theLemmas (theProgram (f .args .words .now)) (f .args .lemmas .now)) (f .pre .1) (l .loop .inv .3) (omega (arith, l .loop .inv .0, c .loop-test .left))
 
 pub tabulate-spec : {M : Type 1} → statement M
 tabulate-spec =
@@ -140,7 +162,7 @@ tabulate-spec =
     sources-requires
     loop-holds
     mul-at
-    array-read-at
+    shared-slice-read-at
     word-at-requires
     source-requires
     slot-requires
@@ -149,17 +171,21 @@ tabulate-spec =
     weigh-requires
     enum-known-z
     enum-told
+    same-length
+    same-length-2
     returns
     add-word-at
     word-at-requires-2
     mul-premises
-    array-write-premises
+    slice-write-premises
     key-at-requires
     mul-keys
-    array-write-keys
+    slice-write-keys
     one-if-below-requires
     add-n
     add-k
     loop-less
     loop-again
+    same-length-3
+    same-length-4
     returns-2)
