@@ -82,15 +82,15 @@ impl Counts {
         self.0.get(name).copied().unwrap_or(0)
     }
 
-    /// Prints all, and hands back those under `least`.
-    pub fn print(&self, least: u64) -> Vec<&'static str> {
-        for pair in DUE.chunks(2) {
+    /// Prints what is due, and hands back what occurred less often than `least`.
+    pub fn print(&self, due: &[&'static str], least: u64) -> Vec<&'static str> {
+        for pair in due.chunks(2) {
             for name in pair {
                 print!("  {name:<46}{:>9}", self.of(name));
             }
             println!();
         }
-        DUE.iter().copied().filter(|name| self.of(name) < least).collect()
+        due.iter().copied().filter(|name| self.of(name) < least).collect()
     }
 }
 
