@@ -1,6 +1,7 @@
 //! Compares the proved library with the independent code: `compare [INPUTS [SEED]]`, by default 100,000 inputs and seed 1.
 //! Ends with status 1 at the first difference, or if some answer occurred too seldom.
 
+mod blocks;
 mod calls;
 mod counts;
 mod dice;
@@ -17,6 +18,7 @@ mod rack;
 mod racks;
 mod rings;
 mod runs;
+mod shapes;
 mod sheets;
 mod states;
 mod sweep;
@@ -25,7 +27,7 @@ mod walks;
 mod wide;
 
 use calls::{falsehood, Compare, Difference};
-use counts::DUE;
+use counts::{BLOCKS, BLOCKS_LEAST, DUE};
 use dice::Dice;
 use generate::Input;
 use bulanevior::raw::{BnvJudge, BNV_ACCEPTED, BNV_JUDGE_REFUSED, BNV_SAFE};
@@ -121,15 +123,15 @@ fn timed(seed: u64, part: impl FnOnce(&mut Compare) -> Result<u64, Difference>) 
 /// All parts, on two threads, with their names. The sweeps have counts of their own, which do not count towards what must occur often in the inputs.
 fn parts(inputs: u64, seed: u64) -> Vec<(Result<Part, Difference>, &'static str)> {
     std::thread::scope(|scope| {
-        let sweeps = scope.spawn(|| timed(seed, sweep::sweep));
+        let sweeps = scope.spawn(|| [timed(seed, sweep::sweep), timed(seed, blocks::sweep)]);
         let made = timed(seed, |compare| run(compare, inputs, seed));
         // On this thread: by default the other sweeps take longer than the inputs.
         let graphs = timed(seed, sweep::graphs);
         let racks = timed(seed, racks::sweep);
         let nears = timed(seed, nears::sweep);
-        let sweeps = sweeps.join().expect("the sweeps panicked");
-        let names = ["inputs", "sweeps", "the graphs' sweeps", "the rack's sweeps", "the guards' sweeps"];
-        [made, sweeps, graphs, racks, nears].into_iter().zip(names).collect()
+        let [sweeps, blocks] = sweeps.join().expect("the sweeps panicked");
+        let names = ["inputs", "sweeps", "the blocks' sweeps", "the graphs' sweeps", "the rack's sweeps", "the guards' sweeps"];
+        [made, sweeps, blocks, graphs, racks, nears].into_iter().zip(names).collect()
     })
 }
 
@@ -159,6 +161,7 @@ fn main() -> ExitCode {
         };
         let (due, least) = match name {
             "inputs" => (DUE, if inputs < 100_000 { inputs / 1000 } else { 100 }),
+            "the blocks' sweeps" => (BLOCKS, BLOCKS_LEAST),
             _ => (&[][..], 0),
         };
         let fewer = compare.counts.print(due, least);
