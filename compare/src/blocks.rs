@@ -14,11 +14,23 @@ use bulanevior::Finding;
 use independent::program::Program;
 use independent::words::*;
 
-/// The library takes nodes in blocks of so many at most, and judges them in blocks of so many from node 0 on.
+/// The library takes nodes in blocks of so many at most, and judges them in blocks of so many from node 0 on. Where fewer wait than a block has at least,
+/// it takes one.
 const BLOCK: usize = 64;
+const LEAST: usize = 6;
 
-/// The numbers of nodes. The last two are refused; by the last one many are found behind the 513th.
-const SIZES: [usize; 13] = [1, 5, 6, 63, 64, 65, 127, 128, 129, 511, 512, 513, 528];
+/// The numbers of nodes. Of 75, 76 and 77 there are 63, 64 and 65 behind node 11, which in the widest tree all wait then. The last two are refused; with
+/// the last, many are found behind the 513th.
+const SIZES: [usize; 16] = [1, 5, 6, 63, 64, 65, 75, 76, 77, 127, 128, 129, 511, 512, 513, 528];
+
+/// One node waits, five, six, or many. The widest tree, in which more than 64 wait even of 127 nodes, has no room for more than 133.
+fn shapes(nodes: usize) -> Vec<Shape> {
+    let mut shapes = vec![arms(nodes, 1), arms(nodes, 5), arms(nodes, 6), lattice(nodes), tree(nodes, 2), tree(nodes, 8)];
+    if nodes <= 133 {
+        shapes.push(tree(nodes, 11));
+    }
+    shapes
+}
 
 /// No node, the first, the last, both; of each border the node before it, the one behind it, both, and the first ones of both blocks; the first node of
 /// each block, and the last of each.
@@ -33,10 +45,16 @@ fn chosen(nodes: usize) -> Vec<Vec<usize>> {
     sets
 }
 
-/// The most nodes that wait to be taken at once.
-fn waiting(graph: &Graph) -> usize {
+/// How many nodes wait, each time that the library takes some.
+fn waiting(graph: &Graph) -> Vec<usize> {
     let parents: Vec<usize> = (1..graph.nodes).filter_map(|node| parent(graph, node)).collect();
-    (0..graph.nodes).map(|node| 1 + parents.partition_point(|parent| *parent < node) - node).max().unwrap_or(0)
+    let (mut taken, mut numbers) = (0, Vec::new());
+    while taken < graph.nodes {
+        let wait = 1 + parents.partition_point(|parent| *parent < taken) - taken;
+        numbers.push(wait);
+        taken += if wait < LEAST { 1 } else { wait.min(BLOCK) };
+    }
+    numbers
 }
 
 /// Two actions lead from one node to others, and keep different literals of it.
@@ -54,22 +72,24 @@ fn kept_apart(program: &Program, graph: &Graph) -> bool {
 
 /// The names of what is seen in a graph.
 fn seen(program: &Program, graph: &Graph) -> Vec<String> {
-    let most = match waiting(graph) {
-        few @ 0..=6 => few.to_string(),
-        7..=64 => "7 to 64".into(),
+    let mut waiting = waiting(graph);
+    waiting.sort_unstable();
+    waiting.dedup();
+    let most = match waiting.last() {
+        Some(few @ 0..=6) => few.to_string(),
+        Some(7..=64) => "7 to 64".into(),
         _ => "65 or more".into(),
     };
     let known = |node: usize| graph.literals(node).known_false | graph.literals(node).known_true;
     let on = |test: &dyn Fn(u32, u32) -> bool| (BLOCK..graph.nodes).any(|node| test(known(node - BLOCK), known(node)));
-    [
+    let some = [
         (true, format!("blocks, nodes {}, waiting {most}", graph.nodes)),
         (kept_apart(program, graph), "blocks, two actions keep different literals".into()),
         (on(&|before, behind| before & !behind > 0), "blocks, unknown where known 64 before".into()),
         (on(&|before, behind| behind & !before > 0), "blocks, known where unknown 64 before".into()),
-    ]
-    .into_iter()
-    .filter_map(|(seen, name)| seen.then_some(name))
-    .collect()
+    ];
+    let taken = waiting.iter().map(|wait| format!("blocks, some taken of {wait}"));
+    some.into_iter().filter_map(|(seen, name)| seen.then_some(name)).chain(taken).collect()
 }
 
 /// The names of what is seen in the findings.
@@ -106,7 +126,7 @@ fn found(nodes: usize, findings: &[Finding]) -> Vec<String> {
 pub fn sweep(compare: &mut Compare) -> Result<u64, Difference> {
     let mut sweep = Sweep { compare, inputs: 0 };
     for nodes in SIZES {
-        for shape in [arms(nodes, 1), arms(nodes, 5), arms(nodes, 6), lattice(nodes), tree(nodes, 1), tree(nodes, 3)] {
+        for shape in shapes(nodes) {
             if nodes > MAX_NODES { sweep.past(&shape)? } else { sweep.blocks(&shape)? }
         }
     }
@@ -189,7 +209,7 @@ impl Sweep<'_> {
 
     /// 512 nodes: a combination at each, an end 64 on, and the other way round.
     fn every_node(&mut self) -> Result<(), Difference> {
-        let shape = tree(MAX_NODES, 3);
+        let shape = tree(MAX_NODES, 8);
         let ends = shape.ends_of(true);
         for node in 0..MAX_NODES {
             let (end, far) = (ends[node % ends.len()], (node + BLOCK) % MAX_NODES);
@@ -202,8 +222,8 @@ impl Sweep<'_> {
     /// Trees of every number of nodes, with a combination at the last.
     fn every_size(&mut self) -> Result<(), Difference> {
         for nodes in 1..=MAX_NODES {
-            self.at(&tree(nodes, 1), &[nodes - 1], &[])?;
-            self.at(&tree(nodes, 3), &[nodes - 1], &[])?;
+            self.at(&tree(nodes, 2), &[nodes - 1], &[])?;
+            self.at(&tree(nodes, 8), &[nodes - 1], &[])?;
         }
         Ok(())
     }

@@ -72,6 +72,7 @@ pub const BLOCKS: &[&str] = &[
     "blocks, nodes 129, waiting 1", "blocks, nodes 129, waiting 5", "blocks, nodes 129, waiting 6", "blocks, nodes 129, waiting 65 or more",
     "blocks, nodes 511, waiting 1", "blocks, nodes 511, waiting 5", "blocks, nodes 511, waiting 6", "blocks, nodes 511, waiting 65 or more",
     "blocks, nodes 512, waiting 1", "blocks, nodes 512, waiting 5", "blocks, nodes 512, waiting 6", "blocks, nodes 512, waiting 65 or more",
+    "blocks, some taken of 6", "blocks, some taken of 7", "blocks, some taken of 63", "blocks, some taken of 64", "blocks, some taken of 65",
     "blocks, a 513th node",
     "blocks, safe, nodes 63", "blocks, safe, nodes 64", "blocks, safe, nodes 65", "blocks, safe, nodes 127", "blocks, safe, nodes 128",
     "blocks, safe, nodes 129", "blocks, safe, nodes 511", "blocks, safe, nodes 512",

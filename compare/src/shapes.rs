@@ -72,12 +72,22 @@ fn on_the_way(t: &Text, action: u32, set: u32) -> Vec<u32> {
     says.into_iter().filter(|says| says.0).flat_map(|(_, goal, index, f, holds)| t.forced(action, goal, index, f, holds)).collect()
 }
 
-/// A tree, so that most nodes wait at once. P0 to P9 are a number, 1 at the start. Each action puts a digit of so many bits behind it, so that the numbers
-/// rise with the nodes; the last of these does what the one before it does. Where it would lead past the last node it has no successor, by a lemma that
-/// it cannot happen or, if the digit is odd, by one that is against another. Each keeps others of P10 to P13. The next action leads back to node 0.
-pub fn tree(nodes: usize, digit: u32) -> Shape {
-    let (ways, start) = (1 << digit, 1 | 1 << 10 | 1 << 12);
-    let places: Vec<u32> = (0..).flat_map(|depth| 1 << (digit * depth)..2 << (digit * depth)).take(nodes).collect();
+/// The nodes of a tree, by their numbers: 1, and each that there is with a digit of so many bits behind it.
+fn branches(nodes: usize, ways: u32, digit: u32) -> Vec<u32> {
+    let mut places = vec![1];
+    for at in 0..nodes {
+        let place = places[at];
+        places.extend((0..ways).map(|a| place << digit | a).take(nodes - places.len()));
+    }
+    places
+}
+
+/// A tree with so many ways on, so that most nodes wait at once. P0 to P9 are a number, 1 at the start. Each action puts another digit behind it, so that
+/// the numbers rise with the nodes; the last of these does what the one before it does. Where it would lead past the last node it has no successor, by a
+/// lemma that it cannot happen or, if the digit is odd, by one that is against another. Each keeps others of P10 to P13. The next leads back to node 0.
+pub fn tree(nodes: usize, ways: u32) -> Shape {
+    let (digit, start) = (ways.next_power_of_two().trailing_zeros(), 1 | 1 << 10 | 1 << 12);
+    let places = branches(nodes, ways, digit);
     let last = places[nodes - 1];
     let set = |a: u32| (a + 1) % 8;
     let puts = |action: u32| action.min(ways - 1);
@@ -88,10 +98,10 @@ pub fn tree(nodes: usize, digit: u32) -> Shape {
         let a = puts(action);
         l.extend(makes(&t, action, 0..digit, a));
         l.extend((digit..10).flat_map(|p| [t.forced(action, 1, p, 0, 1 << (p - digit)), t.forced(action, 2, p, 1 << (p - digit), 0)].concat()));
-        l.extend(above(last.saturating_sub(a) / ways).flat_map(|holds| t.forced(action, a % 2 * 2, 0, 0, holds)));
+        l.extend(above(last.saturating_sub(a) >> digit).flat_map(|holds| t.forced(action, a % 2 * 2, 0, 0, holds)));
         l.extend(on_the_way(&t, action, set(a)));
     }
-    let goes = |place: u32, action: u32| action > ways || place * ways + puts(action) <= last;
+    let goes = |place: u32, action: u32| action > ways || place << digit | puts(action) <= last;
     let moves = |place: &u32| (0..ways + 4).filter(|action| goes(*place, *action)).fold(0, |set, action| set | 1 << action);
     Shape { moves: places.iter().map(moves).collect(), text: t, lemmas: l, told: 10, places }
 }
