@@ -61,13 +61,51 @@ pub const DUE: &[&str] = &[
     "all states walked, a path with steps", "all states walked, a fault as near as the path",
 ];
 
+/// What must occur in the sweeps over blocks of nodes, and how often at least.
+pub const BLOCKS: &[&str] = &[
+    "blocks, nodes 1, waiting 1", "blocks, nodes 5, waiting 1", "blocks, nodes 5, waiting 4", "blocks, nodes 6, waiting 1", "blocks, nodes 6, waiting 5",
+    "blocks, nodes 63, waiting 1", "blocks, nodes 63, waiting 5", "blocks, nodes 63, waiting 6", "blocks, nodes 63, waiting 7 to 64",
+    "blocks, nodes 64, waiting 1", "blocks, nodes 64, waiting 5", "blocks, nodes 64, waiting 6", "blocks, nodes 64, waiting 7 to 64",
+    "blocks, nodes 65, waiting 1", "blocks, nodes 65, waiting 5", "blocks, nodes 65, waiting 6", "blocks, nodes 65, waiting 7 to 64",
+    "blocks, nodes 127, waiting 1", "blocks, nodes 127, waiting 5", "blocks, nodes 127, waiting 6", "blocks, nodes 127, waiting 65 or more",
+    "blocks, nodes 128, waiting 1", "blocks, nodes 128, waiting 5", "blocks, nodes 128, waiting 6", "blocks, nodes 128, waiting 65 or more",
+    "blocks, nodes 129, waiting 1", "blocks, nodes 129, waiting 5", "blocks, nodes 129, waiting 6", "blocks, nodes 129, waiting 65 or more",
+    "blocks, nodes 511, waiting 1", "blocks, nodes 511, waiting 5", "blocks, nodes 511, waiting 6", "blocks, nodes 511, waiting 65 or more",
+    "blocks, nodes 512, waiting 1", "blocks, nodes 512, waiting 5", "blocks, nodes 512, waiting 6", "blocks, nodes 512, waiting 65 or more",
+    "blocks, some taken of 6", "blocks, some taken of 7", "blocks, some taken of 63", "blocks, some taken of 64", "blocks, some taken of 65",
+    "blocks, a 513th node",
+    "blocks, safe, nodes 63", "blocks, safe, nodes 64", "blocks, safe, nodes 65", "blocks, safe, nodes 127", "blocks, safe, nodes 128",
+    "blocks, safe, nodes 129", "blocks, safe, nodes 511", "blocks, safe, nodes 512",
+    "blocks, first a combination at 0", "blocks, first a combination at 62", "blocks, first a combination at 63", "blocks, first a combination at 64",
+    "blocks, first a combination at 127", "blocks, first a combination at 128", "blocks, first a combination at 255",
+    "blocks, first a combination at 256", "blocks, first a combination at 447", "blocks, first a combination at 448", "blocks, first a combination at 510",
+    "blocks, first a combination at 511",
+    "blocks, first a run-off at 0", "blocks, first a run-off at 62", "blocks, first a run-off at 63", "blocks, first a run-off at 64",
+    "blocks, first a run-off at 127", "blocks, first a run-off at 128", "blocks, first a run-off at 255",
+    "blocks, first a run-off at 256", "blocks, first a run-off at 447", "blocks, first a run-off at 448", "blocks, first a run-off at 510",
+    "blocks, first a run-off at 511",
+    "blocks, at 63 and 64 only", "blocks, at 127 and 128 only", "blocks, at 191 and 192 only", "blocks, at 255 and 256 only", "blocks, at 319 and 320 only",
+    "blocks, at 383 and 384 only", "blocks, at 447 and 448 only", "blocks, at the last node only", "blocks, at the first and the last node only",
+    "blocks, in a last block only, not full", "blocks, a finding in each of eight", "blocks, a node and 64 on, of two kinds",
+    "blocks, not shown where nothing follows", "blocks, two actions keep different literals",
+    "blocks, unknown where known 64 before", "blocks, known where unknown 64 before",
+];
+pub const BLOCKS_LEAST: u64 = 6;
+
 impl Counts {
+    /// Notes what was seen in a sweep over blocks, if it must occur there.
+    pub fn note_block(&mut self, name: &str) {
+        if let Some(name) = BLOCKS.iter().find(|due| **due == name) {
+            self.note(name);
+        }
+    }
+
     pub fn note(&mut self, name: &'static str) {
         self.add(name, 1);
     }
 
     pub fn add(&mut self, name: &'static str, n: u64) {
-        debug_assert!(DUE.contains(&name), "{name}");
+        debug_assert!(DUE.contains(&name) || BLOCKS.contains(&name), "{name}");
         *self.0.entry(name).or_default() += n;
     }
 
@@ -82,15 +120,15 @@ impl Counts {
         self.0.get(name).copied().unwrap_or(0)
     }
 
-    /// Prints all, and hands back those under `least`.
-    pub fn print(&self, least: u64) -> Vec<&'static str> {
-        for pair in DUE.chunks(2) {
+    /// Prints what is due, and hands back what occurred less often than `least`.
+    pub fn print(&self, due: &[&'static str], least: u64) -> Vec<&'static str> {
+        for pair in due.chunks(2) {
             for name in pair {
                 print!("  {name:<46}{:>9}", self.of(name));
             }
             println!();
         }
-        DUE.iter().copied().filter(|name| self.of(name) < least).collect()
+        due.iter().copied().filter(|name| self.of(name) < least).collect()
     }
 }
 

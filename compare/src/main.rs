@@ -1,6 +1,7 @@
 //! Compares the proved library with the independent code: `compare [INPUTS [SEED]]`, by default 100,000 inputs and seed 1.
 //! Ends with status 1 at the first difference, or if some answer occurred too seldom.
 
+mod blocks;
 mod calls;
 mod counts;
 mod dice;
@@ -17,6 +18,7 @@ mod rack;
 mod racks;
 mod rings;
 mod runs;
+mod shapes;
 mod sheets;
 mod states;
 mod sweep;
@@ -25,6 +27,7 @@ mod walks;
 mod wide;
 
 use calls::{falsehood, Compare, Difference};
+use counts::{BLOCKS, BLOCKS_LEAST, DUE};
 use dice::Dice;
 use generate::Input;
 use bulanevior::raw::{BnvJudge, BNV_ACCEPTED, BNV_JUDGE_REFUSED, BNV_SAFE};
@@ -117,51 +120,61 @@ fn timed(seed: u64, part: impl FnOnce(&mut Compare) -> Result<u64, Difference>) 
     Ok(Part { compare, inputs, seconds: began.elapsed().as_secs_f64() })
 }
 
-fn main() -> ExitCode {
-    let mut numbers = [100_000, 1];
-    for (to, argument) in numbers.iter_mut().zip(std::env::args().skip(1)) {
-        match argument.parse() {
-            Ok(number) => *to = number,
-            Err(_) => {
-                eprintln!("usage: compare [INPUTS [SEED]]");
-                return ExitCode::from(2);
-            }
-        }
-    }
-    let [inputs, seed] = numbers;
-    println!("seed {seed}");
-    // The sweeps have counts of their own, which do not count towards what must occur often.
-    let parts = std::thread::scope(|scope| {
-        let sweeps = scope.spawn(|| timed(seed, sweep::sweep));
+/// All parts, on two threads, with their names. The sweeps have counts of their own, which do not count towards what must occur often in the inputs.
+fn parts(inputs: u64, seed: u64) -> Vec<(Result<Part, Difference>, &'static str)> {
+    std::thread::scope(|scope| {
+        let sweeps = scope.spawn(|| [timed(seed, sweep::sweep), timed(seed, blocks::sweep)]);
         let made = timed(seed, |compare| run(compare, inputs, seed));
         // On this thread: by default the other sweeps take longer than the inputs.
         let graphs = timed(seed, sweep::graphs);
         let racks = timed(seed, racks::sweep);
         let nears = timed(seed, nears::sweep);
-        let sweeps = sweeps.join().expect("the sweeps panicked");
-        let names = ["inputs", "sweeps", "the graphs' sweeps", "the rack's sweeps", "the guards' sweeps"];
-        [made, sweeps, graphs, racks, nears].into_iter().zip(names).collect::<Vec<_>>()
-    });
+        let [sweeps, blocks] = sweeps.join().expect("the sweeps panicked");
+        let names = ["inputs", "sweeps", "the blocks' sweeps", "the graphs' sweeps", "the rack's sweeps", "the guards' sweeps"];
+        [made, sweeps, blocks, graphs, racks, nears].into_iter().zip(names).collect()
+    })
+}
+
+/// The number of inputs and the seed; none where an argument is no number.
+fn numbers() -> Option<[u64; 2]> {
+    let mut numbers = [100_000, 1];
+    for (to, argument) in numbers.iter_mut().zip(std::env::args().skip(1)) {
+        *to = argument.parse().ok()?;
+    }
+    Some(numbers)
+}
+
+fn main() -> ExitCode {
+    let Some([inputs, seed]) = numbers() else {
+        eprintln!("usage: compare [INPUTS [SEED]]");
+        return ExitCode::from(2);
+    };
+    println!("seed {seed}");
     let mut seldom = Vec::new();
-    let least = if inputs < 100_000 { inputs / 1000 } else { 100 };
-    for (part, name) in parts {
-        let Part { compare, inputs, seconds } = match part {
+    for (part, name) in parts(inputs, seed) {
+        let Part { compare, inputs: done, seconds } = match part {
             Ok(part) => part,
             Err(fault) => {
                 println!("{fault}");
                 return ExitCode::from(1);
             }
         };
-        if name == "inputs" {
-            seldom = compare.counts.print(least);
+        let (due, least) = match name {
+            "inputs" => (DUE, if inputs < 100_000 { inputs / 1000 } else { 100 }),
+            "the blocks' sweeps" => (BLOCKS, BLOCKS_LEAST),
+            _ => (&[][..], 0),
+        };
+        let fewer = compare.counts.print(due, least);
+        if !fewer.is_empty() {
+            seldom.push(format!("fewer than {least}: {}", fewer.join(", ")));
         }
-        println!("{name}: {inputs}, {} calls of each side, {seconds:.1} s", compare.calls);
+        println!("{name}: {done}, {} calls of each side, {seconds:.1} s", compare.calls);
     }
     if seldom.is_empty() {
         println!("no difference");
         ExitCode::SUCCESS
     } else {
-        println!("fewer than {least}: {}", seldom.join(", "));
+        println!("{}", seldom.join("\n"));
         ExitCode::from(1)
     }
 }

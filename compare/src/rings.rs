@@ -38,7 +38,7 @@ fn shortest(graph: &Graph) -> Vec<usize> {
 }
 
 /// The parent in a node's ORIGIN word; none for node 0.
-fn parent(graph: &Graph, node: usize) -> Option<usize> {
+pub fn parent(graph: &Graph, node: usize) -> Option<usize> {
     let word = graph.origin(node);
     (payload(word) != 0x1FFF).then(|| field(word, 12, 4) as usize)
 }

@@ -42,12 +42,12 @@ fn fewer(input: &Input) -> Vec<Input> {
     beginnings.chain(but_one).map(|lemmas| Input { program: input.program.clone(), lemmas }).collect()
 }
 
-fn forbid(node: usize, combination: usize) -> u32 {
+pub fn forbid(node: usize, combination: usize) -> u32 {
     word(Finding::MayForbid { node, combination })
 }
 
 /// Both ends.
-fn run_off(node: usize, action: usize, variable: usize) -> [u32; 2] {
+pub fn run_off(node: usize, action: usize, variable: usize) -> [u32; 2] {
     [End::Low, End::High].map(|end| word(Finding::MayRunOff { node, action, variable, end }))
 }
 
@@ -225,7 +225,7 @@ impl Sweep<'_> {
     }
 
     /// The first that is a fault decides.
-    fn refused(&mut self, input: &Input, (graph, list): (usize, usize), faults: &[u32]) -> Result<(), Difference> {
+    pub fn refused(&mut self, input: &Input, (graph, list): (usize, usize), faults: &[u32]) -> Result<(), Difference> {
         self.inputs += 1;
         let judged = self.compare.judge_uncounted(input, graph, PATH_WORDS, 0)?;
         let before = self.compare.before(&judged, 0);

@@ -1,7 +1,7 @@
 //! Full sweeps over a full-sized program and a full-sized lemma list: every cut, every kind in every place,
 //! every single unnamed bit, every field at its ends and one past them; lengths of all lent lists. And request 1's clause:
 //! small logics, and every set of variables against every other. Request 2's are in sheets.rs, request 4's in racks.rs, request 6's in
-//! rings.rs, request 7's in walks.rs.
+//! rings.rs, request 7's in walks.rs, those of blocks of nodes in blocks.rs.
 
 use crate::calls::{falsehood, Compare, Difference};
 use crate::counts::DUE;
@@ -406,7 +406,7 @@ fn stays(terms: &[u32], set: u32, holding: usize) -> Literals {
 }
 
 /// The variables of a set, rising.
-fn bits(mask: u32) -> impl Iterator<Item = u32> {
+pub fn bits(mask: u32) -> impl Iterator<Item = u32> {
     (0..8).filter(move |v| mask >> v & 1 == 1)
 }
 
