@@ -95,12 +95,11 @@ const FIRST: Nine = [0, 1, 2, 3, 4, 5, 6, 7, 8];
 const SHARED_SUBSETS: Nine = [0, 1, 3, 4, 8, 9, 10, 11, 12];
 const SHARED_NUMBERS: Nine = [0, 1, 2, 3, 5, 7, 8, 9, 11];
 
-/// Action i makes the i-th of the predicates hold, the others of the first `bits` stay if they hold; further actions change
-/// nothing.
-fn subsets(t: &Text, bits: usize, steady: u32, at: Nine) -> Vec<Vec<u32>> {
+/// Action i makes the i-th of the predicates hold, the others of them stay if they hold; further actions change nothing.
+fn subsets(t: &Text, steady: u32, at: &[u32]) -> Vec<Vec<u32>> {
     let mut lemmas = frame(t, steady);
     for a in 0..16 {
-        for (i, p) in at[..bits].iter().enumerate() {
+        for (i, p) in at.iter().enumerate() {
             let premise = if a as usize == i { 0 } else { 1 << p };
             lemmas.push(full(t, a, 1, *p, 0, premise | held(steady)));
         }
@@ -156,13 +155,13 @@ fn show(name: String, t: &Text, lemmas: &[Vec<u32>], nodes: usize) -> Show {
 /// The largest logic and 512 lemmas with a graph of so many nodes, a power of 2.
 pub fn largest(nodes: usize) -> Show {
     let t = logic(true);
-    let mut lemmas = subsets(&t, nodes.trailing_zeros() as usize, 1, FIRST);
+    let mut lemmas = subsets(&t, 1, &FIRST[..nodes.trailing_zeros() as usize]);
     fill(&t, &mut lemmas, 512);
     show(format!("largest, 512 lemmas, nodes: {nodes}"), &t, &lemmas, nodes)
 }
 
 /// The same with nodes that are found one by one.
-fn chain(nodes: usize) -> Show {
+pub fn chain(nodes: usize) -> Show {
     let t = logic(true);
     let mut lemmas = counts(&t, nodes.trailing_zeros());
     fill(&t, &mut lemmas, 512);
@@ -176,6 +175,23 @@ fn kept(count: usize) -> Show {
     lemmas.extend((0..9).map(|i| full(&t, i, 1, i, 0, 0)));
     fill(&t, &mut lemmas, count);
     show(format!("kept, 512 nodes, lemmas: {count}"), &t, &lemmas, 512)
+}
+
+/// 512 nodes with every finding that there can be: predicate 13 is not known, and no end is shown.
+pub fn crowded() -> Show {
+    let t = logic(true);
+    let mut lemmas = subsets(&t, 0, &FIRST);
+    lemmas.retain(|l| field(l[0], 19, 16) < 3);
+    fill(&t, &mut lemmas, 512);
+    show("every finding".to_string(), &t, &lemmas, 512)
+}
+
+/// Refused: it has 1,024 nodes.
+pub fn refused() -> Show {
+    let t = logic(true);
+    let mut lemmas = subsets(&t, 1, &[0, 1, 2, 3, 4, 5, 6, 7, 8, 9]);
+    fill(&t, &mut lemmas, 512);
+    show("refused".to_string(), &t, &lemmas, 0)
 }
 
 /// What grows in the table by size: its name, its least size, and the show of a size.
@@ -208,10 +224,10 @@ pub fn arrangements() -> Vec<Show> {
     let t = logic(true);
     let mut all = Vec::new();
     for (shape, mut lemmas) in [
-        ("subsets", subsets(&t, 9, 1, FIRST)),
-        ("subsets, 5 steady", subsets(&t, 9, 5, FIRST)),
+        ("subsets", subsets(&t, 1, &FIRST)),
+        ("subsets, 5 steady", subsets(&t, 5, &FIRST)),
         ("shifts", shifts(&t, 1, FIRST)),
-        ("subsets, hints shared", subsets(&t, 9, 1, SHARED_SUBSETS)),
+        ("subsets, hints shared", subsets(&t, 1, &SHARED_SUBSETS)),
         ("shifts, hints shared", shifts(&t, 1, SHARED_NUMBERS)),
     ] {
         fill(&t, &mut lemmas, 512);

@@ -292,11 +292,7 @@ fn calls(milliseconds: u32) {
     }
 
     println!();
-    println!("Stack of one call, bytes below the caller's frame:");
-    let show = inputs::largest(512);
-    for (name, bytes) in stack::used(&show) {
-        println!("  {name:<20} {bytes:>8}");
-    }
+    stack::print();
 }
 
 /// Judge and show, each group of shows from its least size to its largest.
