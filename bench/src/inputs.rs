@@ -195,7 +195,8 @@ pub fn refused() -> Show {
 }
 
 /// What grows in the table by size: its name, its least size, and the show of a size.
-pub const GROUPS: [(&str, usize, fn(usize) -> Show); 3] = [("nodes", 1, largest), ("lemmas", 32, kept), ("chain", 64, chain)];
+type Group = (&'static str, usize, fn(usize) -> Show);
+pub const GROUPS: [Group; 3] = [("nodes", 1, largest), ("lemmas", 32, kept), ("chain", 64, chain)];
 
 /// The sizes of a group.
 pub fn sizes(least: usize) -> impl Iterator<Item = usize> {
