@@ -16,6 +16,13 @@ pub struct Show {
     pub state: Vec<i32>,
 }
 
+impl Show {
+    /// The bytes of its file.
+    pub fn bytes(&self) -> Vec<u8> {
+        self.program.iter().chain(&self.lemmas).flat_map(|w| w.to_le_bytes()).collect()
+    }
+}
+
 /// Eight terms.
 fn wide(constant: i32, turn: u32) -> RowText {
     (constant, (0..8).map(|v| (v, if (v + turn) % 2 == 0 { 1 } else { -1 })).collect())
@@ -37,6 +44,13 @@ fn logic(closed: bool) -> Text {
     }
 }
 
+/// The same with actions that set nothing: every literal is kept, and no end has to be shown.
+fn idle() -> Text {
+    let mut t = logic(true);
+    t.actions.iter_mut().for_each(|action| action.sets.clear());
+    t
+}
+
 /// A lemma with no multiplier 0.
 fn full(t: &Text, source: u32, goal: u32, index: u32, f: u32, tr: u32) -> Vec<u32> {
     let mut multipliers = vec![1; t.due(source, goal, f, tr)];
@@ -44,10 +58,10 @@ fn full(t: &Text, source: u32, goal: u32, index: u32, f: u32, tr: u32) -> Vec<u3
     lemma(source, goal, index, f, tr, &multipliers)
 }
 
-/// Up to 512 lemmas, filled up with ones of 14 premises that no node has.
-fn fill(t: &Text, lemmas: &mut Vec<Vec<u32>>) {
-    assert!(lemmas.len() <= 512, "{} lemmas", lemmas.len());
-    while lemmas.len() < 512 {
+/// Up to so many lemmas, filled up with ones of 14 premises that no node has.
+fn fill(t: &Text, lemmas: &mut Vec<Vec<u32>>, count: usize) {
+    assert!(lemmas.len() <= count, "{} lemmas", lemmas.len());
+    while lemmas.len() < count {
         let i = lemmas.len() as u32;
         lemmas.push(full(t, i % 16, 1 + i / 16 % 2, i / 32 % 13, 1 << 13, 0x1FFF));
     }
@@ -81,14 +95,32 @@ const FIRST: Nine = [0, 1, 2, 3, 4, 5, 6, 7, 8];
 const SHARED_SUBSETS: Nine = [0, 1, 3, 4, 8, 9, 10, 11, 12];
 const SHARED_NUMBERS: Nine = [0, 1, 2, 3, 5, 7, 8, 9, 11];
 
-/// Action i makes the i-th of the predicates hold, the others of the first `bits` stay if they hold; further actions change
-/// nothing.
-fn subsets(t: &Text, bits: usize, steady: u32, at: Nine) -> Vec<Vec<u32>> {
+/// Action i makes the i-th of the predicates hold, the others of them stay if they hold; further actions change nothing.
+fn subsets(t: &Text, steady: u32, at: &[u32]) -> Vec<Vec<u32>> {
     let mut lemmas = frame(t, steady);
     for a in 0..16 {
-        for (i, p) in at[..bits].iter().enumerate() {
+        for (i, p) in at.iter().enumerate() {
             let premise = if a as usize == i { 0 } else { 1 << p };
             lemmas.push(full(t, a, 1, *p, 0, premise | held(steady)));
+        }
+    }
+    lemmas
+}
+
+/// Predicates below `bits` as a number, which action 0 counts up, from the last to 0 again; the other actions lead to 0. So
+/// each node but the first is found from the one before it, when no other waits to be explored.
+fn counts(t: &Text, bits: u32) -> Vec<Vec<u32>> {
+    let steady = held(1);
+    let mut lemmas = frame(t, 1);
+    for p in 0..bits {
+        let (bit, below) = (1 << p, (1 << p) - 1);
+        lemmas.push(full(t, START, 2, p, 0, 0));
+        lemmas.extend((1..16).map(|a| full(t, a, 2, p, 0, steady)));
+        lemmas.push(full(t, 0, 1, p, bit, below | steady));
+        lemmas.push(full(t, 0, 2, p, 0, bit | below | steady));
+        for low in 0..p {
+            lemmas.push(full(t, 0, 1, p, 1 << low, bit | steady));
+            lemmas.push(full(t, 0, 2, p, 1 << low | bit, steady));
         }
     }
     lemmas
@@ -123,9 +155,63 @@ fn show(name: String, t: &Text, lemmas: &[Vec<u32>], nodes: usize) -> Show {
 /// The largest logic and 512 lemmas with a graph of so many nodes, a power of 2.
 pub fn largest(nodes: usize) -> Show {
     let t = logic(true);
-    let mut lemmas = subsets(&t, nodes.trailing_zeros() as usize, 1, FIRST);
-    fill(&t, &mut lemmas);
+    let mut lemmas = subsets(&t, 1, &FIRST[..nodes.trailing_zeros() as usize]);
+    fill(&t, &mut lemmas, 512);
     show(format!("largest, 512 lemmas, nodes: {nodes}"), &t, &lemmas, nodes)
+}
+
+/// The same with nodes that are found one by one.
+pub fn chain(nodes: usize) -> Show {
+    let t = logic(true);
+    let mut lemmas = counts(&t, nodes.trailing_zeros());
+    fill(&t, &mut lemmas, 512);
+    show(format!("chain, 512 lemmas, nodes: {nodes}"), &t, &lemmas, nodes)
+}
+
+/// 512 nodes by so many lemmas, 10 or more: action i makes predicate i hold, up to the ninth, and all others are kept.
+fn kept(count: usize) -> Show {
+    let t = idle();
+    let mut lemmas = vec![full(&t, START, 1, 13, 0, 0)];
+    lemmas.extend((0..9).map(|i| full(&t, i, 1, i, 0, 0)));
+    fill(&t, &mut lemmas, count);
+    show(format!("kept, 512 nodes, lemmas: {count}"), &t, &lemmas, 512)
+}
+
+/// 512 nodes with every finding that there can be: predicate 13 is not known, and no end is shown.
+pub fn crowded() -> Show {
+    let t = logic(true);
+    let mut lemmas = subsets(&t, 0, &FIRST);
+    lemmas.retain(|l| field(l[0], 19, 16) < 3);
+    fill(&t, &mut lemmas, 512);
+    show("every finding".to_string(), &t, &lemmas, 512)
+}
+
+/// Refused: it has 1,024 nodes.
+pub fn refused() -> Show {
+    let t = logic(true);
+    let mut lemmas = subsets(&t, 1, &[0, 1, 2, 3, 4, 5, 6, 7, 8, 9]);
+    fill(&t, &mut lemmas, 512);
+    show("refused".to_string(), &t, &lemmas, 0)
+}
+
+/// What grows in the table by size: its name, its least size, and the show of a size.
+type Group = (&'static str, usize, fn(usize) -> Show);
+pub const GROUPS: [Group; 3] = [("nodes", 1, largest), ("lemmas", 32, kept), ("chain", 64, chain)];
+
+/// The sizes of a group.
+pub fn sizes(least: usize) -> impl Iterator<Item = usize> {
+    std::iter::successors(Some(least), |size| Some(2 * size)).take_while(|size| *size <= 512)
+}
+
+/// rig8, or a show by group and size, as `chain:64`.
+pub fn named(row: &str) -> Option<Show> {
+    if row == "rig8" {
+        return Some(rig8());
+    }
+    let (group, size) = row.split_once(':')?;
+    let size: usize = size.parse().ok()?;
+    let (_, least, made) = GROUPS.into_iter().find(|(name, ..)| *name == group)?;
+    sizes(least).find(|n| *n == size).map(made)
 }
 
 pub fn rig8() -> Show {
@@ -139,13 +225,13 @@ pub fn arrangements() -> Vec<Show> {
     let t = logic(true);
     let mut all = Vec::new();
     for (shape, mut lemmas) in [
-        ("subsets", subsets(&t, 9, 1, FIRST)),
-        ("subsets, 5 steady", subsets(&t, 9, 5, FIRST)),
+        ("subsets", subsets(&t, 1, &FIRST)),
+        ("subsets, 5 steady", subsets(&t, 5, &FIRST)),
         ("shifts", shifts(&t, 1, FIRST)),
-        ("subsets, hints shared", subsets(&t, 9, 1, SHARED_SUBSETS)),
+        ("subsets, hints shared", subsets(&t, 1, &SHARED_SUBSETS)),
         ("shifts, hints shared", shifts(&t, 1, SHARED_NUMBERS)),
     ] {
-        fill(&t, &mut lemmas);
+        fill(&t, &mut lemmas, 512);
         let mut put = |order: &str, lemmas: &[Vec<u32>]| {
             all.push(show(format!("{shape}, {order}"), &t, lemmas, 512));
         };

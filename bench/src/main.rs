@@ -1,5 +1,6 @@
 //! Time per call of the proved library against the independent code, both built for release, on the same words in the same
 //! run, and the stack of one call. `bench [MILLISECONDS]`: how long each side of each cell is called, 200 by default.
+//! `bench sizes [ROUNDS]`: how a check grows with its nodes and with its lemmas, by so many rounds, 40 by default.
 
 mod inputs;
 #[allow(dead_code)]
@@ -11,8 +12,12 @@ use bulanevior::raw as library;
 use independent::words::{GRAPH_WORDS, PATH_WORDS};
 use inputs::Show;
 use std::hint::black_box;
+use std::num::NonZeroU32;
 
 const ROUNDS: u32 = 40;
+/// Seconds of a round in the table by size.
+const ROUND: f64 = 0.005;
+const CALLS: [&str; 7] = ["check", "step", "rack", "ask", "judge", "findings", "show"];
 /// The words of the findings list; the shows are safe and have none.
 const FINDINGS: usize = 512;
 
@@ -32,19 +37,26 @@ fn now() -> f64 {
     time.seconds as f64 + time.nanoseconds as f64 * 1e-9
 }
 
+/// How long each side of a cell is called: so many rounds, and the seconds of one.
+#[derive(Clone, Copy)]
+struct Pace {
+    rounds: u32,
+    round: f64,
+}
+
 /// Microseconds per call: the least of the averages of the rounds. The two sides take turns.
-fn times(span: f64, mut library: impl FnMut(), mut other: impl FnMut()) -> (f64, f64) {
+fn times(pace: Pace, mut library: impl FnMut(), mut other: impl FnMut()) -> (f64, f64) {
     let mut calls = [0u32; 2];
     let mut best = [f64::MAX; 2];
     // How many calls make a round.
     for (side, calls) in calls.iter_mut().enumerate() {
         let began = now();
-        while *calls < 2 || now() - began < span / f64::from(ROUNDS) {
+        while *calls < 2 || now() - began < pace.round {
             if side == 0 { library() } else { other() }
             *calls += 1;
         }
     }
-    for _ in 0..ROUNDS {
+    for _ in 0..pace.rounds {
         for side in 0..2 {
             let began = now();
             for _ in 0..calls[side] {
@@ -60,11 +72,17 @@ struct Lists {
     graph: Vec<u32>,
     path: Vec<u32>,
     findings: Vec<u32>,
+    words: Vec<u32>,
 }
 
 impl Lists {
     fn new() -> Lists {
-        Lists { graph: vec![0; GRAPH_WORDS], path: vec![0; PATH_WORDS], findings: vec![0; FINDINGS] }
+        Lists {
+            graph: vec![0; GRAPH_WORDS],
+            path: vec![0; PATH_WORDS],
+            findings: vec![0; FINDINGS],
+            words: vec![0; library::BNV_SHOW_WORDS as usize],
+        }
     }
 }
 
@@ -72,14 +90,17 @@ impl Lists {
 type Stepping = fn(&[u32], usize, &mut [i32]) -> library::BnvStep;
 
 struct Table {
-    /// Seconds for each side of a cell.
-    span: f64,
+    pace: Pace,
     lists: Lists,
     /// Library time of the row before, per call.
-    before: [Option<f64>; 6],
+    before: [Option<f64>; CALLS.len()],
 }
 
 impl Table {
+    fn new(pace: Pace) -> Table {
+        Table { pace, lists: Lists::new(), before: [None; CALLS.len()] }
+    }
+
     fn head() {
         println!(
             "{:<42} {:<8} {:>11} {:>11} {:>6} {:>7}",
@@ -88,7 +109,7 @@ impl Table {
     }
 
     fn cell(&mut self, row: &str, call: usize, (library, other): (f64, f64), growth: bool) {
-        let name = ["check", "step", "rack", "ask", "judge", "findings"][call];
+        let name = CALLS[call];
         let grown = match self.before[call] {
             Some(before) if growth => format!("{:.2}", library / before),
             _ => "-".to_string(),
@@ -108,7 +129,7 @@ impl Table {
         assert_eq!((ours.verdict, ours.nodes), (library::BNV_SAFE, show.nodes), "{}: {ours:?}", show.name);
         let mut more = Lists::new();
         times(
-            self.span,
+            self.pace,
             || {
                 black_box(library::judge(black_box(&show.program), black_box(&show.lemmas), graph, path));
             },
@@ -125,12 +146,30 @@ impl Table {
         assert_eq!((ours.answer, ours.count), (library::BNV_LISTED, 0), "{}: {ours:?}", show.name);
         let mut more = Lists::new();
         times(
-            self.span,
+            self.pace,
             || {
                 black_box(library::findings(black_box(&show.program), black_box(&show.lemmas), graph, findings));
             },
             || {
                 black_box(other::findings(black_box(&show.program), black_box(&show.lemmas), &mut more.graph, &mut more.findings));
+            },
+        )
+    }
+
+    fn show(&mut self, show: &Show) -> (f64, f64) {
+        let bytes = show.bytes();
+        let Lists { graph, path, words, .. } = &mut self.lists;
+        let ours = library::show(&bytes, words, graph, path);
+        assert_eq!(ours, other::show(&bytes, words, graph, path), "{}", show.name);
+        assert_eq!((ours.judged.verdict, ours.judged.nodes), (library::BNV_SAFE, show.nodes), "{}: {ours:?}", show.name);
+        let mut more = Lists::new();
+        times(
+            self.pace,
+            || {
+                black_box(library::show(black_box(&bytes), words, graph, path));
+            },
+            || {
+                black_box(other::show(black_box(&bytes), &mut more.words, &mut more.graph, &mut more.path));
             },
         )
     }
@@ -147,15 +186,15 @@ impl Table {
             state.copy_from_slice(&show.state);
             black_box(call(black_box(words), last, black_box(&mut state)));
         };
-        times(self.span, || step(ours), || step(theirs))
+        times(self.pace, || step(ours), || step(theirs))
     }
 
-    /// All six calls on one show.
+    /// All but show, on one show.
     fn row(&mut self, show: &Show, growth: bool) {
         let (program, lemmas) = (&show.program, &show.lemmas);
-        let span = self.span;
+        let pace = self.pace;
         let checked = times(
-            span,
+            pace,
             || {
                 black_box(library::check(black_box(program)));
             },
@@ -171,7 +210,7 @@ impl Table {
         let k = show.count - 1;
         assert_eq!(library::ask(program, lemmas, k), other::ask(program, lemmas, k), "{}", show.name);
         let asked = times(
-            span,
+            pace,
             || {
                 black_box(library::ask(black_box(program), black_box(lemmas), k));
             },
@@ -188,24 +227,20 @@ impl Table {
 }
 
 /// Makes one call so many times and nothing else, for a tool that counts instructions.
-fn once(words: &[String]) -> Option<()> {
-    let [side, call, row, count] = words else { return None };
-    let library = match side.as_str() {
+fn once(side: &str, call: &str, row: &str, count: u32) -> Option<()> {
+    let library = match side {
         "library" => true,
         "other" => false,
         _ => return None,
     };
-    let show = match row.as_str() {
-        "rig8" => inputs::rig8(),
-        nodes => inputs::largest(nodes.parse().ok()?),
-    };
-    let (program, lemmas) = (&show.program, &show.lemmas);
+    let show = inputs::named(row)?;
+    let (program, lemmas, bytes) = (&show.program, &show.lemmas, show.bytes());
     let last = library::check(&show.stepped).actions - 1;
     let k = show.count - 1;
-    let Lists { mut graph, mut path, mut findings } = Lists::new();
-    for _ in 0..count.parse().ok()? {
+    let Lists { mut graph, mut path, mut findings, mut words } = Lists::new();
+    for _ in 0..count {
         let mut state = show.state.clone();
-        match (call.as_str(), library) {
+        match (call, library) {
             ("check", true) => { black_box(library::check(black_box(program))); }
             ("check", false) => { black_box(other::check(black_box(program))); }
             ("step", true) => { black_box(library::step(black_box(&show.stepped), last, &mut state)); }
@@ -218,27 +253,18 @@ fn once(words: &[String]) -> Option<()> {
             ("judge", false) => { black_box(other::judge(black_box(program), lemmas, &mut graph, &mut path)); }
             ("findings", true) => { black_box(library::findings(black_box(program), lemmas, &mut graph, &mut findings)); }
             ("findings", false) => { black_box(other::findings(black_box(program), lemmas, &mut graph, &mut findings)); }
+            ("show", true) => { black_box(library::show(black_box(&bytes), &mut words, &mut graph, &mut path)); }
+            ("show", false) => { black_box(other::show(black_box(&bytes), &mut words, &mut graph, &mut path)); }
             _ => return None,
         }
     }
     Some(())
 }
 
-fn main() {
-    let words: Vec<String> = std::env::args().skip(1).collect();
-    if words.first().is_some_and(|w| w == "once") {
-        if once(&words[1..]).is_none() {
-            eprintln!("usage: bench once library|other check|step|rack|ask|judge|findings NODES|rig8 TIMES");
-            std::process::exit(2);
-        }
-        return;
-    }
-    let span: u32 = std::env::args().nth(1).and_then(|a| a.parse().ok()).unwrap_or(200);
-    let mut table = Table {
-        span: f64::from(span) / 1000.0,
-        lists: Lists::new(),
-        before: [None; 6],
-    };
+/// The calls on shows of several sizes, Judge on those that take it longest, and the stack.
+fn calls(milliseconds: u32) {
+    let round = f64::from(milliseconds) / 1000.0 / f64::from(ROUNDS);
+    let mut table = Table::new(Pace { rounds: ROUNDS, round });
     println!("Processor time, least average of {ROUNDS} rounds; the two sides take turns. The lent lists are not cleared between calls:");
     println!("each call finds what the last one left. Growth: library time over that of the row before. Ask: the last lemma.");
     println!("Step moves. Slowest and steepest: 512 nodes, 16 actions, 512 accepted lemmas, the arrangement of 20 that takes");
@@ -266,9 +292,47 @@ fn main() {
     }
 
     println!();
-    println!("Stack of one call, bytes below the caller's frame:");
-    let show = inputs::largest(512);
-    for (name, bytes) in stack::used(&show) {
-        println!("  {name:<20} {bytes:>8}");
+    stack::print();
+}
+
+/// Judge and show, each group of shows from its least size to its largest.
+fn sizes(rounds: u32) {
+    let mut table = Table::new(Pace { rounds, round: ROUND });
+    println!("A check by size. Processor time, least average of the rounds ({rounds}); the two sides take turns. The lent lists are not");
+    println!("cleared between calls. The size doubles from row to row; growth: library time over that of the row before.");
+    println!("Largest: nodes are found many at a time. Kept: the actions set nothing, so that 512 nodes need 10 lemmas. Chain: nodes are");
+    println!("found one by one.");
+    Table::head();
+    for (_, least, made) in inputs::GROUPS {
+        for size in inputs::sizes(least) {
+            let show = made(size);
+            let judged = table.judge(&show);
+            table.cell(&show.name, 4, judged, size > least);
+            let shown = table.show(&show);
+            table.cell(&show.name, 6, shown, size > least);
+        }
+    }
+}
+
+/// Does what the arguments ask for, if they ask for something.
+fn run(words: &[&str]) -> Option<()> {
+    match words {
+        ["once", side, call, row, count] => return once(side, call, row, count.parse().ok()?),
+        ["sizes"] => sizes(ROUNDS),
+        ["sizes", rounds] => sizes(rounds.parse::<NonZeroU32>().ok()?.get()),
+        [] => calls(200),
+        [milliseconds] => calls(milliseconds.parse().ok()?),
+        _ => return None,
+    }
+    Some(())
+}
+
+fn main() {
+    let words: Vec<String> = std::env::args().skip(1).collect();
+    let words: Vec<&str> = words.iter().map(String::as_str).collect();
+    if run(&words).is_none() {
+        eprintln!("usage: bench [MILLISECONDS], bench sizes [ROUNDS], or");
+        eprintln!("       bench once library|other {} ROW TIMES; rows: rig8, nodes:64, lemmas:64, chain:64 ..", CALLS.join("|"));
+        std::process::exit(2);
     }
 }
