@@ -168,9 +168,10 @@ fn turn_in(
     ensures { λ r. ⌜ Turned (λ h. turns (nextOf (entries (now (premises .entry)) (now (keys .entry)) n) (now (kept .entry))) mostNodes h k actions)
         (now (graph .entry)) actions nodes edges (k * actions) r (now (graph .exit)) (k * actions + actions) ⌝ }
 {
-    let node = records::word_at(&graph[..], actions, k);
     let i = k % 64;
-    if words[i] == Literals::of(node).0 {
+    let held = words[i];
+    let set = Literals::of(records::word_at(&graph[..], actions, k)).0;
+    if held == set {
         turn_ready(
             premises,
             keys,

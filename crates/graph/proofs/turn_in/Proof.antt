@@ -5,24 +5,24 @@ use Rattle.graph.proofs.Turns.{set-at, usable-ready}
 use Rattle.graph.proofs.turn_in.Statement.{statement}
 use Rattle.graph.proofs.turn_in.Tie as tie
 
+mul-held : tie.Need-mul-held
+mul-held c = search needs
+
+element-copy-out-held : tie.Need-element-copy-out-held
+element-copy-out-held c = search needs
+
 word-at-requires : tie.Need-word-at-requires
 word-at-requires c κs = search needs
-
-mul-if1 : tie.Need-mul-if1
-mul-if1 c = search needs
-
-element-copy-out-if1 : tie.Need-element-copy-out-if1
-element-copy-out-if1 c = search needs
 
 of-requires : tie.Need-of-requires
 of-requires c κs = search needs
 
 turn-ready-requires : tie.Need-turn-ready-requires
 turn-ready-requires c κs =
-    let s = c .before .before .before .before .before .before .before .before .before .before .before .before .before .before in
+    let o = c .before .before .before in
+    let w = o .before in
+    let s = w .before .before .before .before .before .before .before .before .before in
     let p = s .pre .0 in
-    let o = c .before .before .before .before in
-    let w = o .before .before in
     let e = set-at _ _ _ (o .of .result) (w .word-at .ensures) (o .of .ensures) (c .before .before .if1 .taken) in
     ((p .3, p .4, p .5, p .6, p .7, p .8, p .9), ((s .pre .1 .0, omega arith), (usable-ready _ _ (s .pre .1 .1) (omega arith) e, e)))
 
@@ -51,9 +51,9 @@ pub turn-in-spec : {M : Type 1} → statement M
 turn-in-spec =
     tie.close
     (tie.spec
+    mul-held
+    element-copy-out-held
     word-at-requires
-    mul-if1
-    element-copy-out-if1
     of-requires
     turn-ready-requires
     turn-requires
