@@ -350,13 +350,10 @@ pub fn first_finding(
             k,
             passed,
         );
-        match found {
-            Found::Nothing => {
-                k += 1;
-            }
-            _ => {
-                return found;
-            }
+        if let Found::Nothing = found {
+            k += 1;
+        } else {
+            return found;
         }
     }
     Found::Nothing
