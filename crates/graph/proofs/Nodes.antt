@@ -3,7 +3,7 @@
 --     Running                      between two nodes: first-node, taken-on, all-over, all-done
 --     rest-cleared                 what is behind the records cleared
 --     few-found, cleared-found, cleared-none   with that, after the search, and where there is no node
-use mathlib.Core.Path.{_≡_, refl, sym, ap, _∙_}
+use mathlib.Core.Path.{_≡_, refl, ap, _∙_}
 use mathlib.Core.List.{List, [], _++_, append-nil}
 use Prim.Native.Nat.{ℕ, suc, _+_, _-_, _*_, _<_, _≤_}
 use native.Mathlib.Omega.{arith}
@@ -13,7 +13,7 @@ use borrow.Author.Tests.{lt-ltb}
 use lib.ListN.{replicate, length, take, drop, length-drop}
 use lib.Seq.{take-all, take-at, drop-length, drop-drop, drop-append-add}
 use borrow.Rule.Slice.PartMut.{midOf, postOf, putMid, post-is}
-use Rattle.search.specs.Search.{Answer, To, None, Root, Graph, Result, Done, Over, count, links, linksIn, empty, turns, node, visited, explored}
+use Rattle.search.specs.Search.{Answer, To, None, Root, Graph, Result, Done, Over, count, linksIn, empty, turns, node, visited, explored}
 use Rattle.search.proofs.Theorem as theorem
 use Rattle.search.proofs.Steps.{explored-over, explored-done}
 use Rattle.records.specs.Records.{mostNodes, header, graphWords, originWord, distanceWord, stride, recordPlace, recordsOf, graphList}

@@ -204,7 +204,7 @@ fn turn_in(
     }
 }
 
-// Is a block due? The one there is does not have node k's set, and enough nodes wait.
+// Is a block due? The one there is does not have node k's set, and enough nodes wait. Nothing rests on the answer but time.
 fn is_due(words: &[u32; 64], graph: &[u32], nodes: usize, actions: usize, k: usize) -> bool
     requires { ⌜ (graphWords ≤ length (now graph)) × (nodes ≤ mostNodes) × (actions ≤ 16) × (k < nodes) ⌝ }
 {
@@ -212,7 +212,7 @@ fn is_due(words: &[u32; 64], graph: &[u32], nodes: usize, actions: usize, k: usi
     words[k % 64] != Literals::of(node).0 && block::LEAST <= nodes - k
 }
 
-// The sets of the nodes from k on, each at its place in a block.
+// The sets of the nodes from k on, each at its place in a block. Whoever goes by the block compares its sets first, so nothing is promised of them.
 fn load(words: [u32; 64], graph: &[u32], nodes: usize, actions: usize, k: usize) -> [u32; 64]
     requires { ⌜ (graphWords ≤ length (now graph)) × (nodes ≤ mostNodes) × (actions ≤ 16) × (k < nodes) ⌝ }
 {

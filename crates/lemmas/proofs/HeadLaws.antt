@@ -14,11 +14,10 @@ use borrow.Author.Tests.{eq-eqb, ne-eqb, lt-leb}
 use Rattle.words.specs.Words.{bits, payload}
 use Rattle.rows.specs.declared.Row.{Row}
 use Rattle.rows.specs.Rows.{negated}
-use Rattle.grammar.specs.Programs.{Assignment, Action, Program}
-use Rattle.grammar.specs.WellFormed.{Each, Few, RowOk, Rising, ActionOk, WellFormed}
+use Rattle.grammar.specs.Programs.{Assignment, Program}
+use Rattle.grammar.specs.WellFormed.{Few, RowOk, Rising, WellFormed}
 use Rattle.actions.specs.Results.{variablesSet, noneSet}
 use Rattle.programs.specs.declared.Image.{Image}
-use Rattle.programs.proofs.Places.{noneAction}
 use Rattle.words.specs.LiteralSets.{has}
 use Rattle.runs.specs.Values.{rowIf, premiseRows}
 use Rattle.runs.specs.Runs.{actionOf, literalRows}

@@ -18,7 +18,7 @@ use Rattle.rows.specs.Bounds.{small, maxState, Small, SmallRange, smallRanges, 
 use Rattle.rows.proofs.Laws.{between-out, room-weaken}
 use Rattle.grammar.specs.Programs.{Assignment}
 use Rattle.grammar.specs.WellFormed.{Each, RangeOk, RowOk, Rising}
-use Rattle.reader.specs.Results.{zeroRow, zeroRows}
+use Rattle.reader.specs.Results.{zeroRow}
 use Rattle.actions.specs.NewRows.{keepRow, keepRows, assigned}
 use Rattle.programs.specs.Images.{zeroRanges}
 use Rattle.runs.specs.Runs.{onRange, lowestOff}

@@ -2,13 +2,12 @@
 --     sets-none, sets-more, sets-skip   the loop over the nodes' sets
 --     clean-node                        a node that contradicts each combination and is shown to keep to each end has no finding
 use mathlib.Core.Path.{_≡_, refl, sym, ap, _∙_}
-use mathlib.Core.Bool.{Bool, true, false, cond, not, _||_}
+use mathlib.Core.Bool.{Bool, true, false, cond}
 use mathlib.Core.Logic.{_⊎_, ⊎-elim}
 use mathlib.Core.List.{List, [], _∷_}
 use Prim.Native.Nat.{ℕ, zero, suc, _+_, _*_, _/_, _%_, _<_, _≤_}
 use native.Mathlib.Omega.{arith}
 use native.Mathlib.Decide.{decLt, ℕ-discrete}
-use lib.Dec.{ltb}
 use lib.Bits.{bitAnd}
 use lib.ListN.{length, getD, set, take, length-set, replicate, length-replicate}
 use lib.Seq.{length-sets, getD-set-same, getD-set-other}
@@ -18,9 +17,8 @@ use Rattle.words.specs.Words.{payload, noLiterals}
 use Rattle.words.specs.declared.Literals.{Literals}
 use Rattle.grammar.specs.Programs.{Program}
 use Rattle.lemmas.specs.Lemmas.{Lemma}
-use Rattle.sets.specs.Sets.{Member, apart, clashes}
-use Rattle.sets.proofs.Bits.{bit-lt, bit-and}
-use Rattle.gather.specs.Gathering.{Entry, Table, known, blocked, successorOf, firstMissing}
+use Rattle.sets.specs.Sets.{Member, clashes}
+use Rattle.gather.specs.Gathering.{Entry, Table, successorOf, firstMissing}
 use Rattle.block.specs.Blocks.{after, noneOf}
 use Rattle.suspects.specs.Suspects.{AllOpposed, Shown, AllKeep}
 use Rattle.suspects.proofs.Finding.{fewer}

@@ -1,7 +1,5 @@
 -- By the digit of the mask.
 use borrow.Author.Needs.{needs}
-use native.Mathlib.Omega.{arith}
-use mathlib.Core.Path.{_≡_}
 use Rattle.block.proofs.Filling.{there, not-there}
 use Rattle.block.proofs.chosen.Statement.{statement}
 use Rattle.block.proofs.chosen.Tie as tie

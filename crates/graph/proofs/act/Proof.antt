@@ -1,5 +1,4 @@
 use borrow.Author.Needs.{needs}
-use native.Mathlib.Omega.{arith}
 use mathlib.Core.Path.{sym, ap}
 use Rattle.gather.specs.Gathering.{successorOf}
 use Rattle.search.specs.Search.{From}

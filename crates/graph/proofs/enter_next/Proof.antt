@@ -1,6 +1,5 @@
 -- By the two cases of what comes after.
 use borrow.Author.Needs.{needs}
-use native.Mathlib.Omega.{arith}
 use mathlib.Core.Path.{sym, ap, _∙_}
 use Rattle.search.specs.Search.{To, None, From}
 use Rattle.graph.specs.Graph.{answerOf}

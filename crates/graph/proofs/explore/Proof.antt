@@ -5,7 +5,7 @@ use Rattle.gather.specs.Gathering.{entries, successorOf}
 use Rattle.gather.proofs.Successors.{successor-set}
 use Rattle.search.specs.Search.{To}
 use Rattle.records.specs.Records.{graphWords}
-use Rattle.graph.specs.Graph.{answerOf, nextOf, startOf}
+use Rattle.graph.specs.Graph.{answerOf, nextOf}
 use Rattle.graph.proofs.Nodes.{rest-cleared, few-found, cleared-found, cleared-none}
 use borrow.Author.Needs.{needs}
 use Rattle.graph.proofs.explore.Statement.{statement}

@@ -1,6 +1,5 @@
 -- The measure is what is left of the nodes.
 use borrow.Author.Needs.{needs}
-use native.Mathlib.Omega.{arith}
 use Prim.Native.Nat.{_≤_, _-_}
 use Rattle.graph.proofs.load.Statement.{statement}
 use Rattle.graph.proofs.load.Tie as tie

@@ -1,6 +1,5 @@
 -- Columns, table, successors.
 use borrow.Author.Needs.{needs}
-use native.Mathlib.Omega.{arith}
 use Rattle.ready.proofs.ready_block.Statement.{statement}
 use Rattle.ready.proofs.ready_block.Tie as tie
 

@@ -1,6 +1,5 @@
 -- The node's bit, or the node itself.
 use borrow.Author.Needs.{needs}
-use native.Mathlib.Omega.{arith}
 use Rattle.verdict.proofs.found_in.Statement.{statement}
 use Rattle.verdict.proofs.found_in.Tie as tie
 
