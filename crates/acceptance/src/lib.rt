@@ -1,4 +1,5 @@
 // The sum of a lemma's rows, each times the number in its MULT word.
+#![tactic(auto)]
 ghost use Rattle.std.specs.Prelude.{◌≡◌, map, ℕ, ◌+◌, ◌<◌, ◌≤◌, pos, length, get_or, take, drop};
 ghost use Rattle.rows.specs.Bounds.{Small, Read, no_row};
 ghost use Rattle.words.specs.LiteralSets.{has};
@@ -10,7 +11,7 @@ ghost use Rattle.acceptance.specs.Adding.{mult_of, add_row, add_rows, lemma_rows
 use rows::Row;
 
 // A sum of rows, and the index of the next MULT word.
-#[derive(Drop)]
+#[derive(Clone, Copy)]
 pub struct Sum {
     pub row: Row,
     pub used: usize,

@@ -1,4 +1,5 @@
 // Reading assignments and actions.
+#![tactic(auto)]
 ghost use Rattle.std.specs.Prelude.{◌≡◌, ◌&&◌, ◌+◌, ◌<◌, ◌≤◌, leb, ltb, length, drop};
 ghost use Rattle.grammar.specs.Reading.{refused};
 ghost use Rattle.grammar.specs.Grammar.{assignment, sets, action};
@@ -9,7 +10,7 @@ use rows::Row;
 use words::{Kind, Refusal};
 
 // An assignment, and where reading goes on.
-#[derive(Drop)]
+#[derive(Clone, Copy)]
 pub struct SetRead {
     pub variable: usize,
     pub row: Row,
@@ -62,7 +63,7 @@ pub fn read_set(words: &[u32], at: usize, low: usize, vars: usize) -> SetRead
 }
 
 // The row of each variable: its assignment's, or the one that keeps its value.
-#[derive(Drop)]
+#[derive(Clone, Copy)]
 pub struct Sets {
     pub rows: [Row; 8],
     pub set: [bool; 8],
@@ -151,7 +152,7 @@ pub fn read_sets(words: &[u32], at: usize, n: usize, vars: usize) -> Sets
 }
 
 // An action: its guard rows from place 0 on, each variable's row, which variables it sets, and where reading goes on.
-#[derive(Drop)]
+#[derive(Clone, Copy)]
 pub struct ActionRead {
     pub guards: usize,
     pub guard: [Row; 14],

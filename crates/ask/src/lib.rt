@@ -1,4 +1,5 @@
 // Accepting a lemma, and Ask.
+#![tactic(auto)]
 ghost use Rattle.std.specs.Prelude.{◌≡◌, not, ℕ, ◌<◌, ◌≤◌, get_or};
 ghost use Rattle.words.specs.Words.{bits};
 ghost use Rattle.rows.specs.Rows.{exact};
@@ -97,7 +98,7 @@ fn weigh_one(words: &[u32], image: Image, lemmas: &[u32], at: usize) -> Exact
 }
 
 // What Ask answers.
-#[derive(Drop)]
+#[derive(Clone, Copy)]
 pub enum Asked {
     Accepted,
     NotAccepted,

@@ -1,4 +1,5 @@
 // The calls for C and Rust: lists are lent, answers are records of numbers. include/bulanevior.h describes them for their callers.
+#![tactic(auto)]
 ghost use Rattle.std.specs.Prelude.{◌≡◌, cond, ◌↔◌, ◌+◌, ◌≤◌, pos, ◌<ℤ◌, length, take, drop};
 ghost use Rattle.programs.specs.Calls.{read, check, action_part, part_place};
 ghost use Rattle.runs.specs.declared.Stepped.TheVariants.{NotEnabled};
@@ -40,7 +41,7 @@ pub const BNV_GOOD: u32 = 1;
 pub const BNV_CHECK_REFUSED: u32 = 2;
 
 #[repr(C)]
-#[derive(Drop)]
+#[derive(Clone, Copy)]
 pub struct BnvCheck {
     // BNV_GOOD or BNV_CHECK_REFUSED.
     pub answer: u32,
@@ -91,7 +92,7 @@ pub extern "C" fn bnv_check(words: &[u32]) -> BnvCheck
 }
 
 #[repr(C)]
-#[derive(Drop)]
+#[derive(Clone, Copy)]
 pub struct BnvPart {
     pub start: usize,
     pub length: usize,
@@ -120,7 +121,7 @@ pub const BNV_STEP_REFUSED: u32 = 3;
 pub const BNV_MOVED: u32 = 4;
 
 #[repr(C)]
-#[derive(Drop)]
+#[derive(Clone, Copy)]
 pub struct BnvStep {
     pub answer: u32,
     // The first guard row that fails, and its value; the two stand where there was padding.
@@ -211,7 +212,7 @@ pub const BNV_ASK_REFUSED: u32 = 2;
 pub const BNV_ACCEPTED: u32 = 3;
 
 #[repr(C)]
-#[derive(Drop)]
+#[derive(Clone, Copy)]
 pub struct BnvAsk {
     pub answer: u32,
     pub refusal: u32,
@@ -259,7 +260,7 @@ pub const BNV_JUDGE_REFUSED: u32 = 3;
 pub const BNV_SAFE: u32 = 4;
 
 #[repr(C)]
-#[derive(Drop)]
+#[derive(Clone, Copy)]
 pub struct BnvJudge {
     pub verdict: u32,
     pub node: usize,
@@ -365,7 +366,7 @@ pub const BNV_FINDINGS_REFUSED: u32 = 1;
 pub const BNV_LISTED: u32 = 2;
 
 #[repr(C)]
-#[derive(Drop)]
+#[derive(Clone, Copy)]
 pub struct BnvFindings {
     pub answer: u32,
     pub refusal: u32,
@@ -419,7 +420,7 @@ pub const BNV_WORDS_SHORT: u32 = 3;
 pub const BNV_JUDGED: u32 = 4;
 
 #[repr(C)]
-#[derive(Drop)]
+#[derive(Clone, Copy)]
 pub struct BnvShow {
     pub answer: u32,
     // How many words of the words list are the logic, from its front, and how many behind it the lemmas.
@@ -503,7 +504,7 @@ pub const BNV_SUCCESSOR_REFUSED: u32 = 2;
 pub const BNV_NODE: u32 = 3;
 
 #[repr(C)]
-#[derive(Drop)]
+#[derive(Clone, Copy)]
 pub struct BnvSuccessor {
     pub answer: u32,
     pub node: usize,

@@ -89,7 +89,7 @@ awaited k c ws = filled c k.low k.constant (coefs (k.vars - k.low) k.low ws (pla
 going_term : (k : Kept) (c : List ℤ) (w : ℕ) → Going k c → term_allowed k.low k.vars w ≡ true
     → Going (after_term (held k c) w).kept (after_term (held k c) w).coef
 going_term k c w g a =
-    let (l, u) = steps.allowed-between k.low k.vars w a in
+    let (l, u) = steps.allowed_between k.low k.vars w a in
     record { some = omega arith; room = u; zeros = zero-after c k.low (bits 27 24 w) (coefficient w) g.zeros l }
 
 module _ (w : ℕ) (ws : List ℕ) (rec : (k : Kept) (c : List ℤ) → Going k c → fed (held k c) ws ≡ awaited k c ws) (k : Kept) (c : List ℤ) (g : Going k c) where
@@ -105,7 +105,7 @@ module _ (w : ℕ) (ws : List ℕ) (rec : (k : Kept) (c : List ℤ) → Going k 
   fed-term kind true true p q =
       let h = after_term (held k c) w in
       let place-next : k.from + suc k.taken ≡ suc (place k) = omega arith in
-      let l = (steps.allowed-between k.low k.vars w q).0 in
+      let l = (steps.allowed_between k.low k.vars w q).0 in
       let e = taken-term w ws (place k) (eqb-true (kind_of w) TERM kind) p (k.vars - k.low) k.low k.vars (omega (arith, g.room)) q in
       let first : fed (held k c) (w ∷ ws) ≡ fed h ws = rw (steps.good-term k c g.some w kind p q) refl in
       let next : awaited h.kept h.coef ws ≡ awaited k c (w ∷ ws) =

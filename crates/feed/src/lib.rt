@@ -1,4 +1,6 @@
 // A row read in steps: a step sees one word, or the list's end, and a record of fixed size kept from the words before.
+#![tactic(auto)]
+
 ghost use Rattle.std.specs.Prelude.{◌≡◌, ◌+◌, ◌<◌, ◌≤◌, ◌^◌, List, ℤ};
 ghost use Rattle.rows.specs.Rows.{between};
 ghost use Rattle.grammar.specs.Grammar.{coefficient_allowed, constant_allowed};
@@ -11,14 +13,14 @@ ghost use Rattle.feed.specs.Answers.{held, stepped, goes_on};
 use words::{Kind, Refusal};
 
 // What a step sees.
-#[derive(Drop)]
+#[derive(Clone, Copy)]
 pub enum Fed {
     Word(u32),
     End,
 }
 
 // What a step says.
-#[derive(Drop)]
+#[derive(Clone, Copy)]
 pub enum Said {
     GoOn,
     Complete,
@@ -38,7 +40,7 @@ pub fn goes_on(said: Said) -> bool
 
 // What is kept of the words before: how many variables there are, the index where the row begins, how many of its words were taken, the least variable that the
 // next TERM may have, and the constant.
-#[derive(Drop)]
+#[derive(Clone, Copy)]
 pub struct Kept {
     pub vars: usize,
     pub from: usize,
@@ -48,7 +50,7 @@ pub struct Kept {
 }
 
 // What is kept from here on, and what the step says.
-#[derive(Drop)]
+#[derive(Clone, Copy)]
 pub struct Answer {
     pub kept: Kept,
     pub said: Said,

@@ -1,4 +1,5 @@
 // Findings: all findings of one check.
+#![tactic(auto)]
 ghost use Rattle.std.specs.Prelude.{◌≡◌, List, ℕ, ◌≤◌, length};
 ghost use Rattle.programs.specs.Calls.{read};
 ghost use Rattle.lemmas.specs.Lemmas.{Lemma};
@@ -21,7 +22,7 @@ use programs::{Image, Status};
 use words::Refusal;
 
 // What Findings answers.
-#[derive(Drop)]
+#[derive(Clone, Copy)]
 pub enum Listed {
     // All are listed: their number.
     All(usize),

@@ -1,1 +1,2 @@
 // The grammar of a program.
+#![tactic(auto)]

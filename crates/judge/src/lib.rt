@@ -1,4 +1,5 @@
 // Judge.
+#![tactic(auto)]
 ghost use Rattle.std.specs.Prelude.{◌≡◌, List, ℕ, ◌<◌, ◌≤◌, length};
 ghost use Rattle.programs.specs.Calls.{read};
 ghost use Rattle.lemmas.specs.Lemmas.{Lemma};
@@ -21,7 +22,7 @@ use verdict::Found;
 use words::Refusal;
 
 // What Judge answers: a verdict with the counts of nodes and edges, or a refusal.
-#[derive(Drop)]
+#[derive(Clone, Copy)]
 pub enum Judged {
     Safe(usize, usize),
     // Node and combination.

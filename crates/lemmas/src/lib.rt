@@ -1,4 +1,5 @@
 // Lemmas: reading a list of them over a program that has been read.
+#![tactic(auto)]
 ghost use Rattle.std.specs.Prelude.{◌≡◌, ◌+◌, ◌<◌, ◌≤◌, length, take, drop, get_or, false, ◌||◌, eqb, ltb};
 ghost use Rattle.words.specs.Words.{bits, LEMMA};
 ghost use Rattle.grammar.specs.Reading.{times, many, refused};
@@ -19,7 +20,7 @@ use rows::Row;
 use words::{Kind, Literals, Refusal};
 
 // What a lemma's source offers: its rows from place 0 on, and each variable's row afterwards.
-#[derive(Drop)]
+#[derive(Clone, Copy)]
 pub struct Source {
     pub count: usize,
     pub rows: [Row; 8],
@@ -230,7 +231,7 @@ fn read_mults(lemmas: &[u32], at: usize, n: usize) -> Next
 }
 
 // A lemma without its multipliers, and where reading goes on. Its first MULT word is the third of its words.
-#[derive(Drop)]
+#[derive(Clone, Copy)]
 pub struct LemmaRead {
     pub source: usize,
     pub goal: usize,
@@ -293,7 +294,7 @@ fn read_lemma(
 }
 
 // How many lemmas there are, and where reading goes on.
-#[derive(Drop)]
+#[derive(Clone, Copy)]
 pub struct Begins {
     pub count: usize,
     pub next: Next,
@@ -350,7 +351,7 @@ fn as_lemma(why: Refusal) -> Refusal
 }
 
 // How many lemmas a list has, or why it is no lemma list.
-#[derive(Drop)]
+#[derive(Clone, Copy)]
 pub struct Listed {
     pub status: Status,
     pub count: usize,

@@ -1,4 +1,6 @@
 // Words of 32 bits out of bytes, the lowest byte first.
+#![tactic(auto)]
+
 ghost use Rattle.std.specs.Prelude.{◌≡◌, ◌++◌, ◌+◌, ◌*◌, ◌<◌, ◌≤◌, length, drop};
 ghost use Rattle.little.specs.LittleEndian.{word_at, words_of};
 

@@ -1,6 +1,7 @@
 // The operator's program: the bytes of a show on standard input, its line or lines on standard output. What the lines say is the contract of
 // `report`, whether the input was read whole that of `streams`. It reads one byte more than a show may have, and of a longer input no more than
 // that. Where reading or writing fails, it says so on standard error, and no verdict is printed on a part of the input.
+#![tactic(auto)]
 ghost use Rattle.std.specs.Prelude.{◌≡◌, length};
 ghost use Rattle.operator.specs.Program.{HasRoom, lines_after, Leads};
 

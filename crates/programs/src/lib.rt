@@ -1,4 +1,5 @@
 // Programs: the reader of all parts, Check and Action part.
+#![tactic(auto)]
 ghost use Rattle.std.specs.Prelude.{◌≡◌, ◌+◌, ◌-◌, ◌<◌, ◌≤◌, length, take, drop, replicate};
 ghost use Rattle.words.specs.Words.{no_literals, VAR, ACTION, SETS};
 ghost use Rattle.grammar.specs.Reading.{many, refused};
@@ -14,7 +15,7 @@ use rows::{Range, Row};
 use words::{Kind, Literals, Refusal};
 
 // The ranges from place 0 on, how many, and where reading goes on.
-#[derive(Drop)]
+#[derive(Clone, Copy)]
 pub struct Ranges {
     pub ranges: [Range; 8],
     pub count: usize,
@@ -61,7 +62,7 @@ fn read_ranges(words: &[u32]) -> Ranges
 }
 
 // Rows from place 0 on, how many, and where reading goes on.
-#[derive(Drop)]
+#[derive(Clone, Copy)]
 pub struct Counted {
     pub rows: [Row; 14],
     pub count: usize,
@@ -108,14 +109,14 @@ fn no_rows(why: Refusal) -> Counted
 }
 
 // How many rows there are to go by before, an action's guards, and which variables are set.
-#[derive(Drop)]
+#[derive(Clone, Copy)]
 pub struct Shape {
     pub count: usize,
     pub set: [bool; 8],
 }
 
 // Where each action begins and its shape, how many there are, and where reading goes on.
-#[derive(Drop)]
+#[derive(Clone, Copy)]
 pub struct Actions {
     pub begin_at: [usize; 16],
     pub shapes: [Shape; 16],
@@ -177,7 +178,7 @@ fn read_actions(words: &[u32], at: usize, vars: usize) -> Actions
 }
 
 // Forbidden combinations from place 0 on, how many, and where reading goes on.
-#[derive(Drop)]
+#[derive(Clone, Copy)]
 pub struct Forbidden {
     pub literals: [Literals; 8],
     pub count: usize,
@@ -258,7 +259,7 @@ fn read_end(words: &[u32], at: usize) -> Next
     }
 }
 
-#[derive(Drop)]
+#[derive(Clone, Copy)]
 pub enum Status {
     Ready,
     Failed(Refusal),
@@ -266,7 +267,7 @@ pub enum Status {
 
 // A program as the calls work on it: its ranges, start rows, predicates and forbidden combinations, and of each action where it begins in the list and its
 // shape.
-#[derive(Drop)]
+#[derive(Clone, Copy)]
 pub struct Image {
     pub vars: usize,
     pub ranges: [Range; 8],
@@ -281,14 +282,14 @@ pub struct Image {
     pub literals: [Literals; 8],
 }
 
-#[derive(Drop)]
+#[derive(Clone, Copy)]
 pub struct Loaded {
     pub status: Status,
     pub image: Image,
 }
 
 // The five counts of a program.
-#[derive(Drop)]
+#[derive(Clone, Copy)]
 pub struct Counts {
     pub variables: usize,
     pub start_rows: usize,
@@ -297,7 +298,7 @@ pub struct Counts {
     pub forbidden: usize,
 }
 
-#[derive(Drop)]
+#[derive(Clone, Copy)]
 pub enum Checked {
     Good(Counts),
     Refused(Refusal),
@@ -437,7 +438,7 @@ pub fn check(words: &[u32]) -> Checked
 }
 
 // A part of the caller's list: where it begins, and how many words it has.
-#[derive(Drop)]
+#[derive(Clone, Copy)]
 pub struct Part {
     pub start: usize,
     pub length: usize,

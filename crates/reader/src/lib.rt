@@ -1,4 +1,6 @@
 // Reading words and rows.
+#![tactic(auto)]
+
 ghost use Rattle.std.specs.Prelude.{◌≡◌, List, ℕ, ◌+◌, ◌<◌, ◌≤◌, ◌^◌, length, drop, get_or};
 ghost use Rattle.grammar.specs.Reading.{one, begins, times, refused};
 ghost use Rattle.grammar.specs.Grammar.{row};
@@ -12,7 +14,7 @@ use rows::Row;
 use words::{Kind, Refusal};
 
 // Where reading goes on, or why it stops.
-#[derive(Drop)]
+#[derive(Clone, Copy)]
 pub enum Next {
     At(usize),
     Refused(Refusal),
@@ -65,7 +67,7 @@ pub fn read_word(
 }
 
 // A row and where reading goes on. Where it stops, the row is zero.
-#[derive(Drop)]
+#[derive(Clone, Copy)]
 pub struct RowRead {
     pub row: Row,
     pub next: Next,
@@ -142,7 +144,7 @@ pub fn row_at(words: &[u32], at: usize, vars: usize) -> RowRead
 }
 
 // Rows from place 0 on, and where reading goes on. Where it stops, all rows are zero.
-#[derive(Drop)]
+#[derive(Clone, Copy)]
 pub struct Rows {
     pub rows: [Row; 14],
     pub next: Next,

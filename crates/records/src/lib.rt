@@ -1,4 +1,6 @@
 // The records of a graph in a lent list of words.
+#![tactic(auto)]
+
 ghost use Rattle.std.specs.Prelude.{◌≡◌, ◌++◌, ◌+◌, ◌*◌, ◌<◌, ◌≤◌, length, drop, get_or, replicate};
 ghost use Rattle.search.specs.Search.{To, None, Root, From, seek, answered};
 ghost use Rattle.records.specs.Records.{edge_word, origin_word, distance_word, most_nodes, header, graph_words};
@@ -8,7 +10,7 @@ ghost use Rattle.records.specs.Steps.{headed, column, hint_count, Firsts, Near, 
 use words::Kind;
 
 // What a search answers.
-#[derive(Drop)]
+#[derive(Clone, Copy)]
 pub enum Explored {
     // The number of nodes, and of edges that lead to a node.
     Whole(usize, usize),

@@ -1,4 +1,5 @@
 // States, runs and Step.
+#![tactic(auto)]
 ghost use Rattle.std.specs.Prelude.{◌≡◌, map, ℕ, ◌<◌, ◌≤◌, pos, length, take, get_or, set};
 ghost use Rattle.std.specs.Int.{w32};
 ghost use Rattle.std.proofs.Common.{SFits};
@@ -15,14 +16,14 @@ use rows::{Range, Row};
 use words::Refusal;
 
 // The first of some rows that fails, and its value; where all hold, the number past the last one, and 0.
-#[derive(Drop)]
+#[derive(Clone, Copy)]
 pub struct Failing {
     pub row: usize,
     pub value: i64,
 }
 
 // What Step answers.
-#[derive(Drop)]
+#[derive(Clone, Copy)]
 pub enum Stepped {
     Moved,
     // The first guard row that fails.
@@ -142,7 +143,7 @@ pub fn write(state: &mut [i32], x: [i64; 8])
 }
 
 // What trying an action begins with: is there one to try; the ranges, the state's values, the action's guard rows from place 0 on, and each variable's row.
-#[derive(Drop)]
+#[derive(Clone, Copy)]
 pub struct Begun {
     pub status: Status,
     pub ranges: [Range; 8],

@@ -1,4 +1,5 @@
 // From the bytes of a show file to Judge's answer: the length rules, the byte order and the split at END, for any caller.
+#![tactic(auto)]
 ghost use Rattle.std.specs.Prelude.{◌≡◌, List, ℕ, ◌≤◌, length};
 ghost use Rattle.judge.specs.declared.Judged.TheVariants.{Safe};
 ghost use Rattle.show.specs.declared.Shown.TheVariants.{Answered};
@@ -12,7 +13,7 @@ pub const BYTES: usize = 65536;
 
 pub const WORDS: usize = 16384;
 
-#[derive(Drop)]
+#[derive(Clone, Copy)]
 pub enum Shown {
     // The words' list has under 16,384 words.
     WordsShort,

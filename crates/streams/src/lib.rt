@@ -1,25 +1,27 @@
 // When a stream that is read or written by many calls is whole, is to be tried again, or is broken. Nothing here reads or writes.
+#![tactic(auto)]
+
 ghost use Rattle.std.specs.Prelude.{◌≡◌};
 ghost use Rattle.streams.specs.Streams.{answer_of, at_nothing, passing, after_moved, after_failed};
 ghost use Rattle.streams.specs.Streams.{next as next_of};
 
 pub const TRIES: usize = 500;
 
-#[derive(Drop)]
+#[derive(Clone, Copy)]
 pub enum Way {
     Read,
     Write,
 }
 
 // What one call answered: bytes that it moved, or an error's number.
-#[derive(Drop)]
+#[derive(Clone, Copy)]
 pub enum Answer {
     Moved(usize),
     Failed(i32),
 }
 
 // Where a stream stands: so many bytes are done and so many calls were told to come again; all its bytes are there; or it is given up.
-#[derive(Drop)]
+#[derive(Clone, Copy)]
 pub enum Progress {
     Going(usize, usize),
     Whole(usize),

@@ -1,4 +1,5 @@
 // A show surveyed: read, its lemmas weighed, its graph explored. Whatever judges a show begins with this.
+#![tactic(auto)]
 ghost use Rattle.std.specs.Prelude.{◌≡◌, ◌≤◌, length};
 ghost use Rattle.programs.specs.declared.Status.TheVariants.{Failed};
 ghost use Rattle.records.specs.Records.{graph_words};
@@ -10,7 +11,7 @@ use records::Explored;
 use words::Refusal;
 
 // What reading, weighing and exploring come to before anything is judged. Where the status is ready, the graph list holds a graph of these counts.
-#[derive(Drop)]
+#[derive(Clone, Copy)]
 pub struct Surveyed {
     pub status: Status,
     pub image: Image,

@@ -1,4 +1,5 @@
 // The accepted lemmas of a list, in tables.
+#![tactic(auto)]
 ghost use Rattle.std.specs.Prelude.{◌≡◌, ◌+◌, ◌*◌, ◌≤◌, pos, length};
 ghost use Rattle.std.specs.Int.Signed.{lt_z};
 ghost use Rattle.words.specs.Words.{bits};
@@ -10,7 +11,7 @@ use programs::Image;
 use rows::Exact;
 
 // How many lemmas are accepted, and the lowest lemma whose sum leaves 64 bits (the number of lemmas if there is none).
-#[derive(Drop)]
+#[derive(Clone, Copy)]
 pub struct Tables {
     pub count: usize,
     pub off: usize,

@@ -1,6 +1,7 @@
 // Test vectors. Standard input, at most 65,536 bytes, is little-endian words: for each vector a call, a number k, a count n and n words.
 // A vector of Step or of the rack's step goes on with a count m and m words, the state's values in two's complement.
 // Each vector has one line on standard output. Input that breaks off inside a vector ends the run there.
+#![tactic(auto)]
 ghost use Rattle.std.specs.Prelude.{◌≤◌, length};
 
 use programs::{Checked, Counts};

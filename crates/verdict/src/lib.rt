@@ -1,4 +1,5 @@
 // Findings, verdicts and paths of a graph.
+#![tactic(auto)]
 ghost use Rattle.std.specs.Prelude.{◌≡◌, List, [], ◌++◌, map, reverse, ℕ, ◌+◌, ◌/◌, ◌%◌, ◌^◌, ◌<◌, ◌≤◌, length, drop, take};
 ghost use Rattle.words.specs.Words.{word, STEP};
 ghost use Rattle.grammar.specs.Programs.{Program};
@@ -124,7 +125,7 @@ pub fn asked_ends(image: Image) -> [u64; 16]
 }
 
 // What is found first.
-#[derive(Drop)]
+#[derive(Clone, Copy)]
 pub enum Found {
     Nothing,
     // Node and combination.

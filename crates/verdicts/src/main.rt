@@ -2,6 +2,7 @@
 // (3 Ask, 4 Judge, 5 Findings), a number k, the counts of program words and lemma words, the lengths of the lent graph list and of the path or
 // findings list, the program, the lemmas. Each vector has one line on standard output; those of Judge and Findings end with a digest of each lent
 // list. Input that breaks off inside a vector ends the run there.
+#![tactic(auto)]
 ghost use Rattle.std.specs.Prelude.{◌+◌, ◌*◌, ◌<◌, ◌≤◌, ◌^◌, length};
 
 use ask::Asked;

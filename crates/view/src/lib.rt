@@ -1,11 +1,12 @@
 // The reading view over a finished graph list.
+#![tactic(auto)]
 ghost use Rattle.std.specs.Prelude.{◌≡◌};
 ghost use Rattle.view.specs.Views.{edge_of, viewed};
 
 use words::{Kind, Refusal};
 
 // A graph list, and how many nodes and actions its records are of.
-#[derive(Drop)]
+#[derive(Clone, Copy)]
 pub struct View<'a> {
     graph: &'a [u32],
     nodes: usize,
@@ -13,7 +14,7 @@ pub struct View<'a> {
 }
 
 // What a view answers.
-#[derive(Drop)]
+#[derive(Clone, Copy)]
 pub enum Viewed {
     // The successor's number.
     Node(usize),

@@ -1,4 +1,6 @@
 // Words of 32 bits, their fields, and the refusals.
+#![tactic(auto)]
+
 ghost use Rattle.std.specs.Prelude.{◌≡◌, ◌+◌, ◌*◌, ◌<◌, ◌≤◌, ◌^◌, ◌/◌, ◌%◌, eqb};
 ghost use Rattle.words.specs.Words.{bits, signed, signed_by, kind_of, payload, word, literals_of};
 ghost use Rattle.words.specs.Making.{literals};
@@ -17,7 +19,7 @@ pub const NODES: usize = 512;
 const PAYLOADS: u32 = 268435456;
 
 // The kind of a word, its bits 31 to 28.
-#[derive(Drop)]
+#[derive(Clone, Copy)]
 pub struct Kind(pub u32);
 
 impl Kind {
@@ -173,7 +175,7 @@ pub fn index(w: u32) -> usize
 }
 
 // A set of literals as the payload of SETS: bit p for predicate p known true, bit 14 + p for predicate p known false.
-#[derive(Drop)]
+#[derive(Clone, Copy)]
 pub struct Literals(pub u32);
 
 impl Literals {
@@ -195,7 +197,7 @@ impl Literals {
 }
 
 // Why a call refuses, with the number that is returned with the refusal.
-#[derive(Drop)]
+#[derive(Clone, Copy)]
 pub enum Refusal {
     // 1: a lent list is too short; 0 for the graph or the view, 1 for the path.
     Short(usize),

@@ -1,0 +1,43 @@
+-- Each of the three ways through is a law: known, full, fresh.
+use Prim.Native.Nat.{◌+◌, ◌<◌}
+use native.Mathlib.Omega.{arith}
+use lib.ListN.{length-set}
+use Rattle.records.specs.Records.{most_nodes}
+use Rattle.records.proofs.Stores.{known, full, fresh}
+use borrow.Author.Rules.{rules}
+use Rattle.records.proofs.enter.Goals as goal
+use Rattle.records.proofs.enter.Goals.{After-origin_word}
+
+pub returns-then-at-nodes : goal.returns-then-at-nodes
+returns-then-at-nodes c =
+    let a = c.args in
+    rw c.edge_place-place.ensures.0
+    record { turn = known a.graph.now a.actions a.nodes a.edges a.k a.j (omega arith) (omega arith) (omega arith) (omega arith) (omega arith) (omega arith) c.requires.7 a.w c.edge_word.result c.find-at.result c.find-at.ensures.1 c.if-at-nodes.true c.edge_word.ensures; hints = simp length-set (omega arith) }
+
+pub returns-then-nodes-eq-NODES : goal.returns-then-nodes-eq-NODES
+returns-then-nodes-eq-NODES c =
+    let a = c.args in
+    record { turn = full a.graph.now a.actions a.nodes a.edges a.k a.j (omega arith) (omega arith) (omega arith) (omega arith) (omega arith) (omega arith) c.requires.7 a.w c.find-at.result c.find-at.ensures.1 c.if-at-nodes.false c.if-nodes-eq-NODES.true; hints = simp length-set (omega arith) }
+
+pub distance_at-parent-requires : goal.distance_at-parent-requires
+distance_at-parent-requires c =
+    (search rules, search rules, search rules, c.requires.7 _ (omega arith))
+
+-- the parent's distance is at most its number, which is below the new node's
+few : (c : After-origin_word) → c.before.before.distance_at-parent.result + 1 < most_nodes
+few c =
+    let d = c.before.before in
+    let p = d.before.before.before in
+    let u = p.before.before.before.before.before.before.before.before.before in
+    omega (arith, u.requires, d.distance_at-parent.ensures, p.if-nodes-eq-NODES.false)
+
+pub overflow_add-parent : goal.overflow_add-parent
+overflow_add-parent c = omega (arith, few (goal.at.overflow_add-parent c).After-origin_word)
+
+pub store-requires : goal.store-requires
+store-requires c = (search rules, omega (arith, few (goal.at.store-requires c).After-origin_word))
+
+pub returns : goal.returns
+returns c =
+    let a = c.args in record { turn = rw (c.store.ensures, c.edge_place-place.ensures.0, c.record_place-new.ensures.0)
+          (fresh a.graph.now a.actions a.nodes a.edges a.k a.j (omega arith) (omega arith) (omega arith) (omega arith) (omega arith) (omega arith) c.requires.7 a.w c.edge_word-2.result c.origin_word.result c.distance_at-parent.result c.find-at.result c.find-at.ensures.1 c.if-at-nodes.false (omega (arith, c.if-nodes-eq-NODES.false)) c.origin_word.ensures c.distance_at-parent.ensures.0 c.edge_word-2.ensures); hints = simp length-set (omega arith) }
