@@ -1,5 +1,6 @@
 // A show surveyed: read, its lemmas weighed, its graph explored. Whatever judges a show begins with this.
 #![tactic(auto)]
+
 ghost use Rattle.std.specs.Prelude.{◌≡◌, ◌≤◌, length};
 ghost use Rattle.programs.specs.declared.Status.TheVariants.{Failed};
 ghost use Rattle.records.specs.Records.{graph_words};

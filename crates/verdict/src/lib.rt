@@ -1,5 +1,6 @@
 // Findings, verdicts and paths of a graph.
 #![tactic(auto)]
+
 ghost use Rattle.std.specs.Prelude.{◌≡◌, List, [], ◌++◌, map, reverse, ℕ, ◌+◌, ◌/◌, ◌%◌, ◌^◌, ◌<◌, ◌≤◌, length, drop, take};
 ghost use Rattle.words.specs.Words.{word, STEP};
 ghost use Rattle.grammar.specs.Programs.{Program};
