@@ -1,5 +1,6 @@
 // The findings of a graph as words of kind 14, laid one after the other in a list, as many as it has room for.
 #![tactic(auto)]
+
 ghost use Rattle.std.specs.Prelude.{◌≡◌, List, ◌+◌, ◌*◌, ◌/◌, ◌%◌, ◌^◌, ◌<◌, ◌≤◌, length, take, set};
 ghost use Rattle.words.specs.Limits.{most_forbidden, most_actions};
 ghost use Rattle.words.specs.LiteralSets.{has};
