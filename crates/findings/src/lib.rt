@@ -1,5 +1,6 @@
 // Findings: all findings of one check.
 #![tactic(auto)]
+
 ghost use Rattle.std.specs.Prelude.{◌≡◌, List, ℕ, ◌≤◌, length};
 ghost use Rattle.programs.specs.Calls.{read};
 ghost use Rattle.lemmas.specs.Lemmas.{Lemma};

@@ -61,6 +61,8 @@ module _ (p : Program) (ok : WellFormed p) (ls : List Lemma) (g : Graph) (f : Fa
       go : (x : Monomial) (e : Answer) → Leads g x e → naming (edge_word e ∷ []) ≡ leads e
       go False None c = refl
       go (And m) (To n) c = edge-names n (omega (arith, c.0))
+      go False (To n) c = elim c [ ]
+      go (And m) None c = elim c [ ]
 
   plain : Plain (length p.actions) g
   plain = record { nodes = node-plain; origins = origin-plain; distances = distance-plain; edges = edge-plain; wide = f.edge_count }

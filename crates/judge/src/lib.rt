@@ -1,5 +1,6 @@
 // Judge.
 #![tactic(auto)]
+
 ghost use Rattle.std.specs.Prelude.{◌≡◌, List, ℕ, ◌<◌, ◌≤◌, length};
 ghost use Rattle.programs.specs.Calls.{read};
 ghost use Rattle.lemmas.specs.Lemmas.{Lemma};

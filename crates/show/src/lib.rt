@@ -1,5 +1,6 @@
 // From the bytes of a show file to Judge's answer: the length rules, the byte order and the split at END, for any caller.
 #![tactic(auto)]
+
 ghost use Rattle.std.specs.Prelude.{◌≡◌, List, ℕ, ◌≤◌, length};
 ghost use Rattle.judge.specs.declared.Judged.TheVariants.{Safe};
 ghost use Rattle.show.specs.declared.Shown.TheVariants.{Answered};
