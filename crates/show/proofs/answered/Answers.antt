@@ -11,4 +11,4 @@ returns c =
     let a = c.args in
     let l = c.logic_length-n in
     let j = c.judge-answer.ensures in
-    let all = in_parts a.words.now a.graph.now a.path.now l.result l.ensures.0 l.ensures.1 j.0 j.1.0 j.1.1.0 in record { answer = all.0; graph = all.1.0; path = all.1.1 }
+    let all = in_parts a.words.now a.graph.now a.path.now l.result l.ensures.0 l.ensures.1 j.answer j.graph j.path in record { answer = all.0; graph = all.1.0; path = all.1.1 }

@@ -27,4 +27,4 @@ returns c =
     let a = c.args in
     let s = c.answered.ensures in
     let all = whole_words a.bytes.now a.words.now a.graph.now a.path.now (omega arith) (omega arith) c.if-bytes-ne0.false c.to_words.new.words c.to_words.ensures
-    s.0 s.1.0 s.1.1 in record { answer = all.0; words = all.1.0; graph = all.1.1.0; path = all.1.1.1.0; safe = all.1.1.1.1 }
+    s.answer s.graph s.path in record { answer = all.0; words = all.1.0; graph = all.1.1.0; path = all.1.1.1.0; safe = all.1.1.1.1 }
