@@ -1,5 +1,6 @@
 // Reading assignments and actions.
 #![tactic(auto)]
+
 ghost use Rattle.std.specs.Prelude.{◌≡◌, ◌&&◌, ◌+◌, ◌<◌, ◌≤◌, leb, ltb, length, drop};
 ghost use Rattle.grammar.specs.Reading.{refused};
 ghost use Rattle.grammar.specs.Grammar.{assignment, sets, action};

@@ -1,5 +1,6 @@
 // What the accepted lemmas show at 64 nodes at once.
 #![tactic(auto)]
+
 ghost use Rattle.std.specs.Prelude.{◌≡◌, List, ℕ, ◌+◌, ◌*◌, ◌%◌, ◌^◌, ◌<◌, ◌≤◌, length};
 ghost use Rattle.sets.specs.Sets.{bit_of, Member};
 ghost use Rattle.gather.specs.Gathering.{Entry, entries};

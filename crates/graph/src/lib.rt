@@ -1,5 +1,6 @@
 // The abstract state graph of the accepted lemmas, written into a lent list.
 #![tactic(auto)]
+
 ghost use Rattle.std.specs.Prelude.{◌≡◌, ◌+◌, ◌*◌, ◌^◌, ◌<◌, ◌≤◌, length, get_or};
 ghost use Rattle.words.specs.Words.{word, payload, SETS};
 ghost use Rattle.gather.specs.Gathering.{entries, successor_of};

@@ -1,5 +1,6 @@
 // Programs: the reader of all parts, Check and Action part.
 #![tactic(auto)]
+
 ghost use Rattle.std.specs.Prelude.{◌≡◌, ◌+◌, ◌-◌, ◌<◌, ◌≤◌, length, take, drop, replicate};
 ghost use Rattle.words.specs.Words.{no_literals, VAR, ACTION, SETS};
 ghost use Rattle.grammar.specs.Reading.{many, refused};

@@ -1,5 +1,6 @@
 // The successors of 64 nodes by all actions, ready to be asked for. They stand in a lent list, behind the table that they are made of.
 #![tactic(auto)]
+
 ghost use Rattle.std.specs.Prelude.{◌≡◌, List, ℕ, ◌+◌, ◌<◌, ◌≤◌, length, get_or};
 ghost use Rattle.gather.specs.Gathering.{Entry, entries, successor_of};
 ghost use Rattle.block.specs.Blocks.{Block, after};

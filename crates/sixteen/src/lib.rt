@@ -1,5 +1,6 @@
 // The rack's arithmetic, in numbers of sixteen bits.
 #![tactic(auto)]
+
 ghost use Rattle.std.specs.Prelude.{◌≡◌, map};
 ghost use Rattle.sixteen.specs.Sixteen.{cut, wrapped_product, wrapped_dot, wrapped_value};
 

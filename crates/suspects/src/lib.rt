@@ -1,5 +1,6 @@
 // The nodes of a block at which nothing can be found: they contradict each forbidden combination, and each action keeps to its ends there.
 #![tactic(auto)]
+
 ghost use Rattle.std.specs.Prelude.{◌≡◌, List, ℕ, ◌<◌, ◌≤◌, length};
 ghost use Rattle.gather.specs.Gathering.{Entry};
 ghost use Rattle.block.specs.Blocks.{table_words, Columns, Block};

@@ -1,5 +1,6 @@
 // The reading view over a finished graph list.
 #![tactic(auto)]
+
 ghost use Rattle.std.specs.Prelude.{◌≡◌};
 ghost use Rattle.view.specs.Views.{edge_of, viewed};
 

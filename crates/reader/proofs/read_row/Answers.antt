@@ -14,7 +14,7 @@ use Rattle.reader.proofs.read_row.Goals.{After-row_step-answer}
 
 -- what the step gave, by its definition
 step_is : (c : After-row_step-answer) → let l = c.before.before.before.before.loop-i in
-    stepped c.row_step-answer.result c.row_step-answer.new.coef ≡ row_step (held l.auto l.coef) (Word (get_or c.before.before.before.before.before.before.args.part.now l.i 0))
+    stepped c.row_step-answer.result c.row_step-answer.new.coef ≡ row_step (held l.kept l.coef) (Word (get_or c.before.before.before.before.before.before.args.part.now l.i 0))
 step_is c = c.row_step-answer.ensures
 
 pub loop-i-init : goal.loop-i-init

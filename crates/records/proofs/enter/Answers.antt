@@ -6,7 +6,6 @@ use Rattle.records.specs.Records.{most_nodes}
 use Rattle.records.proofs.Stores.{known, full, fresh}
 use borrow.Author.Rules.{rules}
 use Rattle.records.proofs.enter.Goals as goal
-use Rattle.records.proofs.enter.Goals.{After-origin_word}
 
 pub returns-then-at-nodes : goal.returns-then-at-nodes
 returns-then-at-nodes c =
@@ -23,19 +22,11 @@ pub distance_at-parent-requires : goal.distance_at-parent-requires
 distance_at-parent-requires c =
     (search rules, search rules, search rules, c.requires.7 _ (omega arith))
 
--- the parent's distance is at most its number, which is below the new node's
-few : (c : After-origin_word) → c.before.before.distance_at-parent.result + 1 < most_nodes
-few c =
-    let d = c.before.before in
-    let p = d.before.before.before in
-    let u = p.before.before.before.before.before.before.before.before.before in
-    omega (arith, u.requires, d.distance_at-parent.ensures, p.if-nodes-eq-NODES.false)
-
 pub overflow_add-parent : goal.overflow_add-parent
-overflow_add-parent c = omega (arith, few (goal.at.overflow_add-parent c).After-origin_word)
+overflow_add-parent c = omega arith
 
 pub store-requires : goal.store-requires
-store-requires c = (search rules, omega (arith, few (goal.at.store-requires c).After-origin_word))
+store-requires c = (search rules, omega arith)
 
 pub returns : goal.returns
 returns c =

@@ -7,14 +7,14 @@ use lib.ListN.{get_or}
 use Rattle.records.specs.Records.{graph_words, stride, record_place}
 use Rattle.records.proofs.Places.{rooms, tried, none_found, found}
 use Rattle.records.proofs.find.Goals as goal
-use Rattle.records.proofs.find.Goals.{At-loop-i}
+use Rattle.records.proofs.find.Goals.{At-loop-i, then-n-i, else-n-i}
 
 pub overflow_cast-i : goal.overflow_cast-i
 overflow_cast-i c = omega (arith, c.shared_slice_known-3-1.given c.hint_place.result)
 
 pub loop-i-init : goal.loop-i-init
 loop-i-init c =
-    let first : c.if-n-i.i < c.args.n = ⊎_elim (λ w. omega arith) (λ w. omega arith) c.if-n-i.branch in
+    let first : c.if-n-i.i < c.args.n = elim c.if-n-i.branch [ then-n-i w ↦ omega arith | else-n-i w ↦ omega arith ] in
     (first, omega arith, λ k ge lt. absurd (omega arith))
 
 -- the record of node i

@@ -1,0 +1,12 @@
+use Prim.Native.Nat.{◌-◌, ◌≤◌}
+use Rattle.words.specs.Words.{ACTION}
+use Rattle.grammar.specs.Grammar.{action}
+use Rattle.programs.specs.Images.{none_stored, actions_from}
+use Rattle.programs.proofs.ManyLaws.{Loop}
+use Rattle.programs.proofs.read_actions.Given as goal
+
+abbrev pub invariant-loop-read : goal.invariant-loop-read
+invariant-loop-read l = (l.vars ≤ 8) × Loop ACTION (action l.vars) 16 actions_from l.words l.at none_stored (l.begin_at, l.shapes) l.i l.k
+
+abbrev pub decreases-loop-read : goal.decreases-loop-read
+decreases-loop-read l = 16 - l.k

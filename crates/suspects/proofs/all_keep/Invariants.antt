@@ -1,0 +1,13 @@
+-- The first j actions.
+use mathlib.Core.List.{List}
+use Prim.Native.Nat.{ℕ, ◌≤◌, ◌-◌}
+use Rattle.gather.specs.Gathering.{Entry}
+use Rattle.block.specs.Blocks.{Block}
+use Rattle.suspects.specs.Suspects.{AllKeep}
+use Rattle.suspects.proofs.all_keep.Given as goal
+
+abbrev pub invariant-loop-j : goal.invariant-loop-j
+invariant-loop-j l = (l.j ≤ l.actions) × ((kept nodes : List ℕ) (es : List Entry) → Block kept nodes es l.table → AllKeep kept nodes es l.asked l.j l.r)
+
+abbrev pub decreases-loop-j : goal.decreases-loop-j
+decreases-loop-j l = l.actions - l.j
