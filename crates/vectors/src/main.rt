@@ -3,7 +3,7 @@
 // Each vector has one line on standard output. Input that breaks off inside a vector ends the run there.
 #![tactic(auto)]
 
-ghost use Rattle.std.specs.Prelude.{◌×◌, ◌<◌, ◌≤◌, IfSome, length};
+ghost use Rattle.std.specs.Prelude.{◌<◌, ◌≤◌, IfSome, length};
 
 use programs::{Checked, Counts};
 use runs::Stepped;

@@ -4,7 +4,7 @@
 // list. Input that breaks off inside a vector ends the run there.
 #![tactic(auto)]
 
-ghost use Rattle.std.specs.Prelude.{◌×◌, ◌+◌, ◌*◌, ◌<◌, ◌≤◌, ◌^◌, length};
+ghost use Rattle.std.specs.Prelude.{◌+◌, ◌*◌, ◌<◌, ◌≤◌, ◌^◌, length};
 
 use ask::Asked;
 use findings::Listed;
@@ -86,10 +86,8 @@ fn after(first: u32, i: usize) -> u32
 fn fill(list: &mut [u32], first: u32)
     requires { (length list.old ≤ 16384) × (first < 4278190080) }
 {
-    let mut i: usize = 0;
-    while i < list.len() {
-        list[i] = after(first, i);
-        i += 1;
+    for (i, place) in list.iter_mut().enumerate() {
+        *place = after(first, i);
     }
 }
 
