@@ -78,6 +78,8 @@ module _ (p : Program) (ok : WellFormed p) (ls : List Lemma) (good : Each (Lemma
     before : (n : ℕ) (o q : Origin) → Comes begin next actions g.words n q → EarlierBy actions o q → FoundBefore o q
     before n Root (From k l) c e = tt
     before n (From i j) (From k l) c e = below-earlier actions i j k l c.1 e
+    before n Root Root c e = elim e [ ]
+    before n (From i j) Root c e = elim e [ ]
 
     faithful : Faithful p ls g
     faithful = record {

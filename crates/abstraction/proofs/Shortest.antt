@@ -41,6 +41,8 @@ module _ (p : Program) (ls : List Lemma) (g : Graph) (f : Faithful p ls g) where
           → ((i k : ℕ) → k < n → i ≤ k → k < count g → distance g i ≤ distance g k) → distance g i ≤ distance g k
       by Root (From t u) c b d e before = omega (arith, d)
       by (From r s) (From t u) c b d e before = omega (arith, d, e, before r t (omega (arith, c.0)) (earlier-node b) (omega (arith, c.0)))
+      by Root Root c b d e before = elim b [ ]
+      by (From r s) Root c b d e before = elim b [ ]
 
   pub rising : (i k : ℕ) → i ≤ k → k < count g → distance g i ≤ distance g k
   rising i k = rising-below (suc k) i k (omega arith)
@@ -48,6 +50,8 @@ module _ (p : Program) (ls : List Lemma) (g : Graph) (f : Faithful p ls g) where
   leads-to : {m : ℕ} (x : Monomial) (e : Answer) → Leads g x e → e ≡ To m → (m < count g) × (x ≡ And (literals_at g m))
   leads-to False None c is = let z : ◌≡◌ {A = ℕ} 0 1 = cc in absurd (omega arith)
   leads-to {m} (And s) (To n) c is = let same : n ≡ m = cc in rw (← same, c.1) (c.0, cc)
+  leads-to {m = m} False (To n) c is = elim c [ ]
+  leads-to {m = m} (And s) None c is = elim c [ ]
 
   pub edge-near : (k j m : ℕ) → k < count g → j < actions → edge actions g k j ≡ To m → (m < count g) × (distance g m ≤ suc (distance g k))
   edge-near k j m h l e =
@@ -72,6 +76,8 @@ module _ (p : Program) (ls : List Lemma) (g : Graph) (f : Faithful p ls g) where
   leads-back : (k : ℕ) → k < count g → (x : Monomial) (e : Answer) → Leads g x e → x ≡ And (literals_at g k) → e ≡ To k
   leads-back k h False None c is = let z : ◌≡◌ {A = ℕ} 0 1 = cc in absurd (omega arith)
   leads-back k h (And s) (To n) c is = let same : s ≡ literals_at g k = cc in ap To (f.once n k c.0 h (c.1 ∙ same))
+  leads-back k h False (To n) c is = elim c [ ]
+  leads-back k h (And s) None c is = elim c [ ]
 
   pub path-walk : (n k : ℕ) → k ≤ n → k < count g → Walk actions g 0 (path g.origins n k) k
   unfolding back

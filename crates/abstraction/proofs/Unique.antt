@@ -173,6 +173,10 @@ module _ (p : Program) (ls : List Lemma) where
     leads-same : (x : Monomial) (c d : Answer) → Leads g x c → Leads h x d → c ≡ d
     leads-same False None None u v = refl
     leads-same (And m) (To i) (To j) u v = ap To (e.once i j (agree i u.0).0 v.0 ((agree i u.0).1 ∙ u.1 ∙ sym v.1))
+    leads-same False (To i) d u v = elim u [ ]
+    leads-same False None (To j) u v = elim v [ ]
+    leads-same (And m) (To i) None u v = elim v [ ]
+    leads-same (And m) None d u v = elim u [ ]
 
     edge_same : (k j : ℕ) → k < count g → j < actions → edge actions g k j ≡ edge actions h k j
     edge_same k j b hj =

@@ -1,5 +1,6 @@
 // The sum of a lemma's rows, each times the number in its MULT word.
 #![tactic(auto)]
+
 ghost use Rattle.std.specs.Prelude.{◌≡◌, map, ℕ, ◌+◌, ◌<◌, ◌≤◌, pos, length, get_or, take, drop};
 ghost use Rattle.rows.specs.Bounds.{Small, Read, no_row};
 ghost use Rattle.words.specs.LiteralSets.{has};

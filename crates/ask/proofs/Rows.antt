@@ -63,8 +63,8 @@ module _ (p : Program) (ok : WellFormed p) (s : ℕ) where
   predicate-at : (i : ℕ) → i < length p.predicates → get_or (sets zero_rows 0 p.predicates) i no_row ≡ predicate p i
   predicate-at i h = stored_at 14 zero_row p.predicates i no_row h ok.predicates.few ∙ same_default p.predicates i no_row (const_row (pos 0)) h
 
-  range_at : (v : ℕ) → v < length p.ranges → get_or (sets zero_ranges 0 p.ranges) v zero_range ≡ range_at p v
-  range_at v h = stored_at 8 zero_range p.ranges v zero_range h ok.ranges.few
+  range_at_lem : (v : ℕ) → v < length p.ranges → get_or (sets zero_ranges 0 p.ranges) v zero_range ≡ range_at p v
+  range_at_lem v h = stored_at 8 zero_range p.ranges v zero_range h ok.ranges.few
 
   set_known : (v : ℕ) → sets_variable (action_of p s).sets v ≡ true → v < length p.ranges
   set_known v e = sets-known (length p.ranges) 0 (action_of p s).sets v (action-rising (length p.ranges) p.actions s ok.actions.each) e
@@ -77,8 +77,8 @@ module _ (p : Program) (ok : WellFormed p) (s : ℕ) where
   negated-is CannotHappen i e = refl
   negated-is HoldsAfter i e = rw (predicate-at i (ltb-true i (length p.predicates) e)) refl
   negated-is FailsAfter i e = rw (predicate-at i (ltb-true i (length p.predicates) e)) refl
-  negated-is NotBelow i e = rw (range_at i (set_known i e)) refl
-  negated-is NotAbove i e = rw (range_at i (set_known i e)) refl
+  negated-is NotBelow i e = rw (range_at_lem i (set_known i e)) refl
+  negated-is NotAbove i e = rw (range_at_lem i (set_known i e)) refl
 
   pub index-few : (g : Goal) (i : ℕ) → goal_allowed p s g i ≡ true → (goal_number g ≤ 2 → i < 14) × (2 < goal_number g → i < 8)
   index-few CannotHappen i e = (λ l. omega (arith, eqb-true i 0 e), λ l. absurd (omega arith))

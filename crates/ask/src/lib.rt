@@ -1,5 +1,6 @@
 // Accepting a lemma, and Ask.
 #![tactic(auto)]
+
 ghost use Rattle.std.specs.Prelude.{◌≡◌, not, ℕ, ◌<◌, ◌≤◌, get_or};
 ghost use Rattle.words.specs.Words.{bits};
 ghost use Rattle.rows.specs.Rows.{exact};

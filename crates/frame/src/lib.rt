@@ -1,5 +1,6 @@
 // Which predicates each action leaves untouched, as masks of literals.
 #![tactic(auto)]
+
 ghost use Rattle.std.specs.Prelude.{◌≡◌, ℕ, ◌+◌, ◌<◌, ◌≤◌, eqb, nat_abs, get_or};
 ghost use Rattle.rows.specs.Bounds.{Read, no_row};
 ghost use Rattle.grammar.specs.Programs.{Program};

@@ -1,5 +1,6 @@
 // Lemmas: reading a list of them over a program that has been read.
 #![tactic(auto)]
+
 ghost use Rattle.std.specs.Prelude.{◌≡◌, ◌+◌, ◌<◌, ◌≤◌, length, take, drop, get_or, false, ◌||◌, eqb, ltb};
 ghost use Rattle.words.specs.Words.{bits, LEMMA};
 ghost use Rattle.grammar.specs.Reading.{times, many, refused};

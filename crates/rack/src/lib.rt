@@ -1,5 +1,6 @@
 // The rack's step: what a rack does, which holds each variable in sixteen bits.
 #![tactic(auto)]
+
 ghost use Rattle.std.specs.Prelude.{◌≡◌, ◌≤◌, length};
 ghost use Rattle.programs.specs.Calls.{read};
 ghost use Rattle.runs.specs.Guards.{Guarded};

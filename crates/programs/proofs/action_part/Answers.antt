@@ -15,4 +15,4 @@ returns c =
     let k = c.args.k in
     let at = (part_place list.now k).start in
     let start : x.start ≡ at = ap (λ (y : Part). y.start) c.part_place-place.ensures.place in
-    rw long (words, (part-of list.now x.start x.length room, placed_at list.ref_ptr at (omega (arith, start))))
+    rw long record { answer = words; part = part-of list.now x.start x.length room; place = placed_at list.ref_ptr at (omega (arith, start)) }

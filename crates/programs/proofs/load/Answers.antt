@@ -30,9 +30,10 @@ start_is c =
 
 second : (c : In_default-next) → (rs : List Row) × CountedAt c.args.words.now INIT 8 c.read_ranges-ranges.result.count c.in_default.field-0 c.read_counted-start.result c.in_default-next.field-0 rs
 second c =
+    let first' : ((gs : List Range) × RangesAt c.args.words.now c.read_ranges-ranges.result c.in_default.field-0 gs) = (ranges-at c.args.words.now c.read_ranges-ranges.ensures c.in_default.is) in
     let place_is' : (c.place.result ≡ c.in_default.field-0) = (c.place.ensures ∙ rw c.in_default.is refl) in
     let start_is' : (let j = c.in_default.field-0 in c.read_counted-start.result ≡ counted_read (rows INIT 8 c.read_ranges-ranges.result.count (drop j c.args.words.now) j)) = (rw place_is' at c.read_counted-start.ensures) in
-    let (gs, t) = first (⟦⟧.In_default) in
+    let (gs, t) = first' in
     counted-at c.args.words.now INIT 8 c.read_ranges-ranges.result.count c.in_default.field-0 start_is' (omega (arith, t.few, t.counted)) (omega arith) refl t.here c.in_default-next.is
 
 place2-is : (c : After-place-2) → c.place-2.result ≡ c.in_default-next.field-0
@@ -48,10 +49,15 @@ preds-is c =
 third : (c : In_default-next-2) → (rs : List Row) × CountedAt c.args.words.now PRED 14 c.read_ranges-ranges.result.count c.in_default-next.field-0 c.read_counted-preds.result c.in_default-next-2.field-0 rs
 third c =
     let first' : ((gs : List Range) × RangesAt c.args.words.now c.read_ranges-ranges.result c.in_default.field-0 gs) = (ranges-at c.args.words.now c.read_ranges-ranges.ensures c.in_default.is) in
+    let first' : ((gs : List Range) × RangesAt c.args.words.now c.read_ranges-ranges.result c.in_default.field-0 gs) = (ranges-at c.args.words.now c.read_ranges-ranges.ensures c.in_default.is) in
+    let place_is' : (c.place.result ≡ c.in_default.field-0) = (c.place.ensures ∙ rw c.in_default.is refl) in
+    let start_is' : (let j = c.in_default.field-0 in c.read_counted-start.result ≡ counted_read (rows INIT 8 c.read_ranges-ranges.result.count (drop j c.args.words.now) j)) = (rw place_is' at c.read_counted-start.ensures) in
+    let second' : ((rs : List Row) × CountedAt c.args.words.now INIT 8 c.read_ranges-ranges.result.count c.in_default.field-0 c.read_counted-start.result c.in_default-next.field-0 rs) = (let (gs, t) = first' in
+    counted-at c.args.words.now INIT 8 c.read_ranges-ranges.result.count c.in_default.field-0 start_is' (omega (arith, t.few, t.counted)) (omega arith) refl t.here c.in_default-next.is) in
     let place2-is' : (c.place-2.result ≡ c.in_default-next.field-0) = (c.place-2.ensures ∙ rw c.in_default-next.is refl) in
     let preds-is' : (let j = c.in_default-next.field-0 in c.read_counted-preds.result ≡ counted_read (rows PRED 14 c.read_ranges-ranges.result.count (drop j c.args.words.now) j)) = (rw place2-is' at c.read_counted-preds.ensures) in
     let (gs, t) = first' in
-    let (rs, u) = second (⟦⟧.In_default-next) in
+    let (rs, u) = second' in
     counted-at c.args.words.now PRED 14 c.read_ranges-ranges.result.count c.in_default-next.field-0 preds-is' (omega (arith, t.few, t.counted)) (omega arith) refl u.here c.in_default-next-2.is
 
 place3-is : (c : After-place-3) → c.place-3.result ≡ c.in_default-next-2.field-0

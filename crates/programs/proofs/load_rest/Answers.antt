@@ -29,28 +29,28 @@ end_is c =
     rw place2-is' at c.read_end-next.ensures
 
 pub read_actions-actions-requires : goal.read_actions-actions-requires
-read_actions-actions-requires c = (c.pre.0, c.pre.2)
+read_actions-actions-requires c = (c.requires.0, c.requires.2)
 
 pub returns-in-Refused : goal.returns-in-Refused
 returns-in-Refused c =
-    c.no_image.ensures ∙ rw (actions-refused c.args.ranges.count c.args.preds.count c.pre.0 c.args.words.now c.args.at c.pre.2 c.read_actions-actions.ensures c.in-Refused.is) refl
+    c.no_image.ensures ∙ rw (actions-refused c.args.ranges.count c.args.preds.count c.requires.0 c.args.words.now c.args.at c.requires.2 c.read_actions-actions.ensures c.in-Refused.is) refl
 
 pub read_forbidden-forbidden-requires : goal.read_forbidden-forbidden-requires
 read_forbidden-forbidden-requires c =
-    (c.pre.1, rw (place_is (goal.at.read_forbidden-forbidden-requires c).After-place) (actions-within c.args.ranges.count c.args.preds.count c.pre.0 c.args.words.now c.args.at c.pre.2 c.read_actions-actions.ensures c.in_default.is))
+    (c.requires.1, rw (place_is (goal.at.read_forbidden-forbidden-requires c).After-place) (actions-within c.args.ranges.count c.args.preds.count c.requires.0 c.args.words.now c.args.at c.requires.2 c.read_actions-actions.ensures c.in_default.is))
 
 pub returns-in-Refused-next : goal.returns-in-Refused-next
 returns-in-Refused-next c =
-    c.no_image-in-Refused-next.ensures ∙ rw (forbidden-refused c.args.ranges.count c.args.preds.count c.pre.0 c.args.words.now c.args.at c.pre.2 c.read_actions-actions.ensures c.in_default.is (forbidden-is ((goal.at.returns-in-Refused-next c).After-read_forbidden-forbidden)) c.in-Refused-next.is) refl
+    c.no_image-in-Refused-next.ensures ∙ rw (forbidden-refused c.args.ranges.count c.args.preds.count c.requires.0 c.args.words.now c.args.at c.requires.2 c.read_actions-actions.ensures c.in_default.is (forbidden-is ((goal.at.returns-in-Refused-next c).After-read_forbidden-forbidden)) c.in-Refused-next.is) refl
 
 pub read_end-next-requires : goal.read_end-next-requires
 read_end-next-requires c =
-    rw (place2-is (goal.at.read_end-next-requires c).After-place-2) (forbidden-within c.args.ranges.count c.args.preds.count c.pre.0 c.args.words.now c.args.at c.pre.2 c.read_actions-actions.ensures c.in_default.is (forbidden-is (goal.at.read_end-next-requires c).After-read_forbidden-forbidden) c.in_default-next.is)
+    rw (place2-is (goal.at.read_end-next-requires c).After-place-2) (forbidden-within c.args.ranges.count c.args.preds.count c.requires.0 c.args.words.now c.args.at c.requires.2 c.read_actions-actions.ensures c.in_default.is (forbidden-is (goal.at.read_end-next-requires c).After-read_forbidden-forbidden) c.in_default-next.is)
 
 pub returns-in-Refused-next-2 : goal.returns-in-Refused-next-2
 returns-in-Refused-next-2 c =
-    c.no_image-in-Refused-next-2.ensures ∙ rw (end-stopped c.args.ranges.count c.args.preds.count c.pre.0 c.args.words.now c.args.at c.pre.2 c.read_actions-actions.ensures c.in_default.is (forbidden-is (goal.at.returns-in-Refused-next-2 c).After-read_forbidden-forbidden) c.in_default-next.is (sym (end_is (goal.at.returns-in-Refused-next-2 c).After-read_end-next) ∙ c.in-Refused-next-2.is)) refl
+    c.no_image-in-Refused-next-2.ensures ∙ rw (end-stopped c.args.ranges.count c.args.preds.count c.requires.0 c.args.words.now c.args.at c.requires.2 c.read_actions-actions.ensures c.in_default.is (forbidden-is (goal.at.returns-in-Refused-next-2 c).After-read_forbidden-forbidden) c.in_default-next.is (sym (end_is (goal.at.returns-in-Refused-next-2 c).After-read_end-next) ∙ c.in-Refused-next-2.is)) refl
 
 pub returns : goal.returns
 returns c =
-    c.ready.ensures ∙ rest_read c.args.ranges.count c.args.preds.count c.pre.0 c.args.words.now c.args.at c.pre.2 c.read_actions-actions.ensures c.in_default.is (forbidden-is (goal.at.returns c).After-read_forbidden-forbidden) c.in_default-next.is c.args.ranges c.args.start c.args.preds (sym (end_is ((goal.at.returns c).After-read_end-next)) ∙ c.in_default-next-2.is)
+    c.ready.ensures ∙ rest_read c.args.ranges.count c.args.preds.count c.requires.0 c.args.words.now c.args.at c.requires.2 c.read_actions-actions.ensures c.in_default.is (forbidden-is (goal.at.returns c).After-read_forbidden-forbidden) c.in_default-next.is c.args.ranges c.args.start c.args.preds (sym (end_is ((goal.at.returns c).After-read_end-next)) ∙ c.in_default-next-2.is)

@@ -18,7 +18,8 @@ span_of c =
     found_at'.ends c.read_action-read.ensures c.in-At.is
 
 pub returns-then-count-k : goal.returns-then-count-k
-returns-then-count-k c = no_place c.args.words.now c.args.k c.load-loaded.ensures c.if-count-k.true
+returns-then-count-k c =
+    let all = no_place c.args.words.now c.args.k c.load-loaded.ensures c.if-count-k.true in record { place = all.0; part = all.1 }
 
 pub offset_bounds-image-k : goal.offset_bounds-image-k
 offset_bounds-image-k c = let f = found_at (goal.at.offset_bounds-image-k c).Else-count-k in omega (arith, f.small)
@@ -33,8 +34,9 @@ pub overflow_sub-result : goal.overflow_sub-result
 overflow_sub-result c = let f = span_of (goal.at.overflow_sub-result c).In-At in omega arith
 
 pub returns-in-Refused : goal.returns-in-Refused
-returns-in-Refused c = absurd ((found_at (goal.at.returns-in-Refused c).Else-count-k).never c.read_action-read.ensures c.in-Refused.is)
+returns-in-Refused c =
+    absurd ((found_at (goal.at.returns-in-Refused c).Else-count-k).never c.read_action-read.ensures c.in-Refused.is)
 
 pub returns-in-At : goal.returns-in-At
 returns-in-At c =
-    place_found c.args.words.now c.args.k c.load-loaded.ensures c.if-count-k.false (span_of (goal.at.returns-in-At c).In-At)
+    let all = place_found c.args.words.now c.args.k c.load-loaded.ensures c.if-count-k.false (span_of (goal.at.returns-in-At c).In-At) in record { place = all.0; part = all.1 }

@@ -12,7 +12,7 @@ use Rattle.programs.proofs.read_actions.Goals as goal
 use Rattle.programs.proofs.read_actions.Goals.{In-At}
 
 turn-of : (c : In-At) → let s = c.args in let l = c.loop-read in
-    (l.k < 16) × Loop ACTION (action s.vars) 16 actions_from s.words.now s.at none_stored (set l.begin-at l.k l.i, set l.shapes l.k (record { count = c.read_action-read.result.guards; set = c.read_action-read.result.set })) c.in-At.j (l.k + 1)
+    (l.k < 16) × Loop ACTION (action s.vars) 16 actions_from s.words.now s.at none_stored (set l.begin_at l.k l.i, set l.shapes l.k (record { count = c.read_action-read.result.guards; set = c.read_action-read.result.set })) c.in-At.j (l.k + 1)
 turn-of c =
     action-turned c.args.vars c.loop-read.invariant.0 c.args.words.now c.args.at c.loop-read.invariant.1 (sym c.begins.ensures ∙ c.loop-read-test.true) c.read_action-read.ensures c.in-At.is
 
