@@ -1,5 +1,6 @@
 // Text and decimal numbers, written at a place of a lent list of bytes.
 #![tactic(auto)]
+
 ghost use Rattle.std.specs.Prelude.{◌+◌, ◌≤◌, length};
 ghost use Rattle.lines.specs.Text.{decimal, field, line};
 ghost use Rattle.lines.specs.Puts.{Put};

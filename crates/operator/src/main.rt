@@ -2,11 +2,15 @@
 // `report`, whether the input was read whole that of `streams`. It reads one byte more than a show may have, and of a longer input no more than
 // that. Where reading or writing fails, it says so on standard error, and no verdict is printed on a part of the input.
 #![tactic(auto)]
+
 ghost use Rattle.std.specs.Prelude.{◌≡◌, length};
 ghost use Rattle.operator.specs.Program.{HasRoom, lines_after, Leads};
 
-use libc::{STDERR_FILENO, STDIN_FILENO, STDOUT_FILENO};
-use streams::{Progress, Way};
+use std::io::{ErrorKind, Read, Write};
+use std::process::ExitCode;
+use std::time::{Clock, Duration};
+use std::{io, thread};
+use streams::{Answer, Progress, Way};
 
 // Room for 65,537 bytes. The contract gives only the length, so that no caller sees a list of as many zeros.
 fn room() -> [u8; 65537]
@@ -15,44 +19,77 @@ fn room() -> [u8; 65537]
     [0; 65537]
 }
 
-// Waits for 10 ms; a signal may end that early.
-fn wait() {
-    let asked = libc::types::timespec {
-        tv_sec: 0,
-        tv_nsec: 10000000,
-    };
-    let mut left = libc::types::timespec {
-        tv_sec: 0,
-        tv_nsec: 0,
-    };
-    libc::nanosleep(&asked, &mut left);
+// Room for the lines.
+fn lines_room() -> [u8; 4096]
+    ensures { 4096 ≡ length result }
+{
+    [0; 4096]
 }
 
-fn pause(wanted: bool) {
+// Waits for 10 ms.
+fn wait(clock: &impl Clock) {
+    thread::sleep(clock, Duration::from_millis(10));
+}
+
+fn pause(clock: &impl Clock, wanted: bool) {
     if wanted {
-        wait();
+        wait(clock);
     }
 }
 
-// Reads standard input to its end, or until the bytes are full. Where that fails, it says why.
-fn read_whole(bytes: &mut [u8]) -> Progress
+// What a call answered: the bytes that it moved, or the error's number.
+fn answer(got: io::Result<usize>) -> Answer {
+    match got {
+        Ok(n) => Answer::Moved(n),
+        Err(error) => streams::answered(-1, error.raw_os_error().unwrap_or(0)),
+    }
+}
+
+// The reason alone, without the error's number that std writes behind it.
+fn reason(text: &str) -> &str {
+    match text.split_once(" (os error ") {
+        Some((before, _)) => before,
+        None => text,
+    }
+}
+
+// Says on standard error what could not be done and why.
+fn fail(rt: &(impl Eprint + Alloc), what: &str, error: io::Error) {
+    let _ = match format!(in rt.alloc(); "{error}") {
+        Ok(text) => rt.eprintln(format_args!("bulanevior: {what}: {}", reason(text.as_str()))),
+        Err(_) => rt.eprintln(format_args!("bulanevior: {what}: {error}")),
+    };
+}
+
+// Says why standard input could not be read.
+fn tell_unread(rt: &(impl Eprint + Alloc), got: io::Result<usize>) {
+    if let Err(error) = got {
+        fail(rt, "cannot read standard input", error);
+    }
+}
+
+// Reads the input to its end, or until the bytes are full. Where that fails, it says why.
+fn read_whole<R: Read>(
+    rt: &(impl Clock + Eprint + Alloc),
+    input: &mut R,
+    bytes: &mut [u8],
+) -> Progress
     ensures { HasRoom result (length bytes.new) }
 {
     let room = bytes.len();
     let mut done: usize = 0;
     let mut tries: usize = 0;
     loop {
-        let got = libc::read(STDIN_FILENO, &mut bytes[done..]);
-        let answer = streams::answered(got, os::errno());
-        match streams::next(Way::Read, room, Progress::Going(done, tries), answer) {
+        let got = input.read(&mut bytes[done..]);
+        match streams::next(Way::Read, room, Progress::Going(done, tries), answer(got)) {
             Progress::Going(more, again) => {
-                pause(again > tries);
+                pause(rt, again > tries);
                 done = more;
                 tries = again;
             }
             Progress::Whole(n) => return Progress::Whole(n),
             Progress::Broken => {
-                os::fail(b"bulanevior: cannot read standard input");
+                tell_unread(rt, got);
                 return Progress::Broken;
             }
         }
@@ -72,49 +109,66 @@ fn put_lines(end: Progress, bytes: &[u8], lines: &mut [u8]) -> usize
 }
 
 // Says why the lines could not be written; `got` is what the last call gave, before which `done` bytes had gone out.
-fn tell_unwritten(got: isize, done: usize) {
-    if got >= 0 {
-        io::write_all(
-            STDERR_FILENO,
-            b"bulanevior: the line on standard output is not whole: it takes no byte\n",
-        );
-    } else if done == 0 {
-        os::fail(b"bulanevior: cannot write to standard output");
-    } else {
-        os::fail(b"bulanevior: the line on standard output is not whole");
-    }
-}
-
-// Writes the lines to standard output, if there are any. Where that fails, it says why.
-fn write_whole(lines: &[u8]) {
-    let room = lines.len();
-    if room == 0 {
-        return;
-    }
-    let mut done: usize = 0;
-    let mut tries: usize = 0;
-    loop {
-        let got = libc::write(STDOUT_FILENO, &lines[done..]);
-        let answer = streams::answered(got, os::errno());
-        match streams::next(Way::Write, room, Progress::Going(done, tries), answer) {
-            Progress::Going(more, again) => {
-                pause(again > tries);
-                done = more;
-                tries = again;
-            }
-            Progress::Whole(_) => return,
-            Progress::Broken => {
-                tell_unwritten(got, done);
-                return;
+fn tell_unwritten(rt: &(impl Eprint + Alloc), got: io::Result<usize>, done: usize) {
+    match got {
+        Ok(_) => {
+            let _ = rt.eprintln(
+                "bulanevior: the line on standard output is not whole: it takes no byte",
+            );
+        }
+        Err(error) => {
+            if done == 0 {
+                fail(rt, "cannot write to standard output", error);
+            } else {
+                fail(rt, "the line on standard output is not whole", error);
             }
         }
     }
 }
 
-fn main() {
+// With what the program ends where a write gave this: where nobody reads the output, with what a shell says of a program that SIGPIPE ended.
+fn status(got: io::Result<usize>) -> u8 {
+    match got {
+        Ok(_) => 0,
+        Err(error) => {
+            if matches!(error.kind(), ErrorKind::BrokenPipe) {
+                141
+            } else {
+                0
+            }
+        }
+    }
+}
+
+// Writes the lines to the output, if there are any. Where that fails, it says why. Answers the status to end with.
+fn write_whole<W: Write>(rt: &(impl Clock + Eprint + Alloc), output: &mut W, lines: &[u8]) -> u8 {
+    let room = lines.len();
+    if room == 0 {
+        return 0;
+    }
+    let mut done: usize = 0;
+    let mut tries: usize = 0;
+    loop {
+        let got = output.write(&lines[done..]);
+        match streams::next(Way::Write, room, Progress::Going(done, tries), answer(got)) {
+            Progress::Going(more, again) => {
+                pause(rt, again > tries);
+                done = more;
+                tries = again;
+            }
+            Progress::Whole(_) => return 0,
+            Progress::Broken => {
+                tell_unwritten(rt, got, done);
+                return status(got);
+            }
+        }
+    }
+}
+
+fn main(rt: HostRuntime) -> ExitCode {
     let mut bytes = room();
-    let end = read_whole(&mut bytes);
-    let mut lines = io::buffer();
+    let end = read_whole(&rt, &mut rt.stdin(), &mut bytes);
+    let mut lines = lines_room();
     let m = put_lines(end, &bytes, &mut lines);
-    write_whole(&lines[..m]);
+    ExitCode::from(write_whole(&rt, &mut rt.stdout(), &lines[..m]))
 }

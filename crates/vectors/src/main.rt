@@ -2,55 +2,65 @@
 // A vector of Step or of the rack's step goes on with a count m and m words, the state's values in two's complement.
 // Each vector has one line on standard output. Input that breaks off inside a vector ends the run there.
 #![tactic(auto)]
-ghost use Rattle.std.specs.Prelude.{◌≤◌, length};
+
+ghost use Rattle.std.specs.Prelude.{◌<◌, ◌≤◌, IfSome, length};
 
 use programs::{Checked, Counts};
 use runs::Stepped;
+use std::io;
+use std::io::{BufWriter, Read, Write};
 use words::Refusal;
+
+// A vector: the call, its number, its words and those of the state, of which only the two steps have any; how many words it has in all.
+#[derive(Clone, Copy)]
+struct Vector<'a> {
+    call: u32,
+    k: usize,
+    words: &'a [u32],
+    state: &'a [u32],
+    size: usize,
+}
 
 fn wide(word: u32) -> usize {
     word as usize
 }
 
 // A number after a space.
-fn number(n: usize) {
-    io::write_all(1, b" ");
-    io::print_decimal(1, n as u64);
+fn number<W: Write>(out: &mut W, n: usize) -> io::Result<()> {
+    write!(out, " {n}")
 }
 
-fn refused(r: Refusal) {
-    io::write_all(1, b"REFUSED");
-    number(wide(words::number_of(r)));
-    io::write_all(1, b" AT");
-    number(words::value_of(r));
+fn refused<W: Write>(out: &mut W, r: Refusal) -> io::Result<()> {
+    write!(out, "REFUSED")?;
+    number(out, wide(words::number_of(r)))?;
+    write!(out, " AT")?;
+    number(out, words::value_of(r))
 }
 
-fn counts(c: Counts) {
-    io::write_all(1, b"COUNTS");
-    number(c.variables);
-    number(c.start_rows);
-    number(c.predicates);
-    number(c.actions);
-    number(c.forbidden);
+fn counts<W: Write>(out: &mut W, c: Counts) -> io::Result<()> {
+    write!(out, "COUNTS")?;
+    number(out, c.variables)?;
+    number(out, c.start_rows)?;
+    number(out, c.predicates)?;
+    number(out, c.actions)?;
+    number(out, c.forbidden)
 }
 
 // Check.
-fn check(words: &[u32]) {
-    let checked = programs::check(words);
-    match checked {
-        Checked::Good(c) => counts(c),
-        Checked::Refused(r) => refused(r),
+fn check<W: Write>(out: &mut W, words: &[u32]) -> io::Result<()> {
+    match programs::check(words) {
+        Checked::Good(c) => counts(out, c),
+        Checked::Refused(r) => refused(out, r),
     }
 }
 
 // The words of an action's part.
-fn part(words: &[u32]) {
-    io::write_all(1, b"PART");
-    let mut i = 0;
-    while i < words.len() {
-        number(wide(words[i]));
-        i += 1;
+fn part<W: Write>(out: &mut W, words: &[u32]) -> io::Result<()> {
+    write!(out, "PART")?;
+    for word in words {
+        number(out, wide(*word))?;
     }
+    Ok(())
 }
 
 // The number that a word is in two's complement.
@@ -66,56 +76,38 @@ fn value(word: u32) -> i32 {
 fn fill(state: &mut [i32], words: &[u32])
     requires { length words.now ≤ length state.old }
 {
-    let mut i: usize = 0;
-    while i < words.len() {
-        state[i] = value(words[i]);
-        i += 1;
+    for (place, word) in state.iter_mut().zip(words) {
+        *place = value(*word);
     }
-}
-
-fn long(x: i32) -> i64 {
-    x as i64
-}
-
-// A number without its sign.
-fn magnitude(x: i64) -> u64 {
-    if x < 0 { (-1 - x) as u64 + 1 } else { x as u64 }
 }
 
 // A signed number after a space.
-fn signed_number(x: i64) {
-    io::write_all(1, b" ");
-    if x < 0 {
-        io::write_all(1, b"-");
-    }
-    io::print_decimal(1, magnitude(x));
+fn signed_number<W: Write>(out: &mut W, x: i64) -> io::Result<()> {
+    write!(out, " {x}")
 }
 
 // The values of a state at exit.
-fn left(state: &[i32]) {
-    io::write_all(1, b" LEFT");
-    let mut i: usize = 0;
-    while i < state.len() {
-        signed_number(long(state[i]));
-        i += 1;
+fn left<W: Write>(out: &mut W, state: &[i32]) -> io::Result<()> {
+    write!(out, " LEFT")?;
+    for x in state {
+        signed_number(out, i64::from(*x))?;
     }
+    Ok(())
 }
 
-fn stepped(s: Stepped) {
+fn stepped<W: Write>(out: &mut W, s: Stepped) -> io::Result<()> {
     match s {
-        Stepped::Moved => {
-            io::write_all(1, b"MOVED");
-        }
+        Stepped::Moved => write!(out, "MOVED"),
         Stepped::NotEnabled(failing) => {
-            io::write_all(1, b"NOT ENABLED");
-            number(failing.row);
-            signed_number(failing.value);
+            write!(out, "NOT ENABLED")?;
+            number(out, failing.row)?;
+            signed_number(out, failing.value)
         }
         Stepped::RunsOff(v) => {
-            io::write_all(1, b"RUNS OFF");
-            number(v);
+            write!(out, "RUNS OFF")?;
+            number(out, v)
         }
-        Stepped::Refused(r) => refused(r),
+        Stepped::Refused(r) => refused(out, r),
     }
 }
 
@@ -129,68 +121,84 @@ fn tried(racked: bool, words: &[u32], k: usize, values: &mut [i32]) -> Stepped {
 }
 
 // One of the two on the values of the state's words.
-fn on_state(racked: bool, words: &[u32], k: usize, state: &[u32], values: &mut [i32])
+fn on_state<W: Write>(
+    out: &mut W,
+    racked: bool,
+    words: &[u32],
+    k: usize,
+    state: &[u32],
+    values: &mut [i32],
+) -> io::Result<()>
     requires { length state.now ≤ length values.old }
 {
     fill(&mut *values, state);
     let s = tried(racked, words, k, &mut *values);
-    stepped(s);
-    left(&values[..]);
+    stepped(out, s)?;
+    left(out, &values[..])
 }
 
 // The same, in room for sixteen values.
-fn step(racked: bool, words: &[u32], k: usize, state: &[u32]) {
+fn step<W: Write>(
+    out: &mut W,
+    racked: bool,
+    words: &[u32],
+    k: usize,
+    state: &[u32],
+) -> io::Result<()> {
     let m = state.len();
     if m <= 16 {
         let mut values = [0i32; 16];
-        on_state(racked, words, k, state, &mut values[..m]);
+        on_state(out, racked, words, k, state, &mut values[..m])
     } else {
-        io::write_all(1, b"NO SUCH CALL");
+        write!(out, "NO SUCH CALL")
     }
 }
 
-// The line of one vector, by the number of its call; only the two steps have a state.
-fn answer(call: u32, k: usize, words: &[u32], state: &[u32]) {
-    match call {
-        0 => check(words),
-        1 => part(programs::action_part(words, k)),
-        2 => step(false, words, k, state),
-        3 => step(true, words, k, state),
-        _ => {
-            io::write_all(1, b"NO SUCH CALL");
-        }
+// The line of one vector, by the number of its call.
+fn answer<W: Write>(out: &mut W, v: Vector<'_>) -> io::Result<()> {
+    match v.call {
+        0 => check(out, v.words)?,
+        1 => part(out, programs::action_part(v.words, v.k))?,
+        2 => step(out, false, v.words, v.k, v.state)?,
+        3 => step(out, true, v.words, v.k, v.state)?,
+        _ => write!(out, "NO SUCH CALL")?,
     }
-    io::write_all(1, b"\n");
+    writeln!(out)
 }
 
-// The line of a step, whose state's count stands at `at`. Where the vector ends; 0 where it breaks off.
-fn with_state(call: u32, k: usize, words: &[u32], at: usize) -> usize
+// The vector of a step, whose state's count stands at `at`. None where it breaks off.
+fn with_state(call: u32, k: usize, words: &[u32], at: usize) -> Option<Vector<'_>>
     requires { (3 ≤ at) × (at ≤ length words.now) }
-    ensures { result ≤ length words.now }
+    ensures { IfSome result (λ v. (0 < v.size) × (v.size ≤ length words.now)) }
 {
     if words.len() - at < 1 {
-        return 0;
+        return None;
     }
     let m = wide(words[at]);
     let start = at + 1;
     if words.len() - start < m {
-        return 0;
+        return None;
     }
     let end = start + m;
-    answer(call, k, &words[3..at], &words[start..end]);
-    end
+    Some(Vector {
+        call,
+        k,
+        words: &words[3..at],
+        state: &words[start..end],
+        size: end,
+    })
 }
 
-// The line of the vector at the front. How many words the vector has; 0 where there is none or it breaks off.
-fn first(words: &[u32]) -> usize
-    ensures { result ≤ length words.now }
+// The vector at the front. None where there is none or it breaks off.
+fn first(words: &[u32]) -> Option<Vector<'_>>
+    ensures { IfSome result (λ v. (0 < v.size) × (v.size ≤ length words.now)) }
 {
     if words.len() < 3 {
-        return 0;
+        return None;
     }
     let n = wide(words[2]);
     if words.len() - 3 < n {
-        return 0;
+        return None;
     }
     let end = n + 3;
     let call = words[0];
@@ -198,34 +206,40 @@ fn first(words: &[u32]) -> usize
     if 2 <= call {
         return with_state(call, k, words, end);
     }
-    answer(call, k, &words[3..end], &words[end..end]);
-    end
+    Some(Vector {
+        call,
+        k,
+        words: &words[3..end],
+        state: &words[end..end],
+        size: end,
+    })
 }
 
 // Each vector in turn.
-fn run(words: &[u32]) {
-    let mut at: usize = 0;
-    loop {
-        let n = first(&words[at..]);
-        if n == 0 {
-            return;
-        }
-        at += n;
+fn run<W: Write>(out: &mut W, words: &[u32]) -> io::Result<()> {
+    let mut rest = words;
+    while let Some(v) = first(rest) {
+        answer(out, v)?;
+        rest = &rest[v.size..];
     }
+    Ok(())
 }
 
 // The words of the bytes; one to three bytes at the end are no word.
-fn on_bytes(b: &[u8]) {
+fn on_bytes<W: Write>(out: &mut W, b: &[u8]) -> io::Result<()> {
     let n = b.len() / 4;
     if n <= 16384 {
         let mut space = little::space();
         little::to_words(b, &mut space, n);
-        run(&space[..n]);
+        run(out, &space[..n])?;
     }
+    Ok(())
 }
 
-fn main() {
-    let mut buf = io::large_buffer();
-    let n = io::read_full(0, &mut buf);
-    on_bytes(&buf[..n]);
+fn main(rt: HostRuntime) -> io::Result<()> {
+    let mut input = Vec::new(rt.alloc());
+    rt.stdin().take(65536).read_to_end(&mut input)?;
+    let mut out = BufWriter::new(rt.alloc(), io::writer(&rt))?;
+    on_bytes(&mut out, &input)?;
+    out.flush()
 }

@@ -3,11 +3,15 @@
 // findings list, the program, the lemmas. Each vector has one line on standard output; those of Judge and Findings end with a digest of each lent
 // list. Input that breaks off inside a vector ends the run there.
 #![tactic(auto)]
+
 ghost use Rattle.std.specs.Prelude.{◌+◌, ◌*◌, ◌<◌, ◌≤◌, ◌^◌, length};
 
 use ask::Asked;
 use findings::Listed;
 use judge::Judged;
+use std::alloc::Global;
+use std::io;
+use std::io::{BufWriter, Read, Write};
 use words::Refusal;
 
 fn wide(word: u32) -> usize
@@ -17,69 +21,58 @@ fn wide(word: u32) -> usize
 }
 
 // A number after a space.
-fn number(n: usize) {
-    io::write_all(1, b" ");
-    io::print_decimal(1, n as u64);
+fn number<W: Write>(out: &mut W, n: usize) -> io::Result<()> {
+    write!(out, " {n}")
 }
 
-fn refused(r: Refusal) {
-    io::write_all(1, b"REFUSED");
-    number(wide(words::number_of(r)));
-    io::write_all(1, b" AT");
-    number(words::value_of(r));
+fn refused<W: Write>(out: &mut W, r: Refusal) -> io::Result<()> {
+    write!(out, "REFUSED")?;
+    number(out, wide(words::number_of(r)))?;
+    write!(out, " AT")?;
+    number(out, words::value_of(r))
 }
 
-fn asked(a: Asked) {
+fn asked<W: Write>(out: &mut W, a: Asked) -> io::Result<()> {
     match a {
-        Asked::Accepted => {
-            io::write_all(1, b"ACCEPTED");
-        }
-        Asked::NotAccepted => {
-            io::write_all(1, b"NOT ACCEPTED");
-        }
-        Asked::Refused(r) => refused(r),
+        Asked::Accepted => write!(out, "ACCEPTED"),
+        Asked::NotAccepted => write!(out, "NOT ACCEPTED"),
+        Asked::Refused(r) => refused(out, r),
     }
 }
 
-fn counts(nodes: usize, edges: usize) {
-    io::write_all(1, b" nodes");
-    number(nodes);
-    io::write_all(1, b" edges");
-    number(edges);
+fn counts<W: Write>(out: &mut W, nodes: usize, edges: usize) -> io::Result<()> {
+    write!(out, " nodes {nodes} edges {edges}")
 }
 
-fn run_off(node: usize, action: usize, variable: usize, high: bool) {
-    io::write_all(1, b"RUNOFF node");
-    number(node);
-    io::write_all(1, b" action");
-    number(action);
-    io::write_all(1, b" variable");
-    number(variable);
-    if high {
-        io::write_all(1, b" high");
-    } else {
-        io::write_all(1, b" low");
-    }
+fn run_off<W: Write>(
+    out: &mut W,
+    node: usize,
+    action: usize,
+    variable: usize,
+    high: bool,
+) -> io::Result<()> {
+    let end = if high { "high" } else { "low" };
+    write!(
+        out,
+        "RUNOFF node {node} action {action} variable {variable} {end}"
+    )
 }
 
-fn judged(j: Judged) {
+fn judged<W: Write>(out: &mut W, j: Judged) -> io::Result<()> {
     match j {
         Judged::Safe(nodes, edges) => {
-            io::write_all(1, b"SAFE");
-            counts(nodes, edges);
+            write!(out, "SAFE")?;
+            counts(out, nodes, edges)
         }
         Judged::MayForbid(node, bad, nodes, edges) => {
-            io::write_all(1, b"FORBID node");
-            number(node);
-            io::write_all(1, b" bad");
-            number(bad);
-            counts(nodes, edges);
+            write!(out, "FORBID node {node} bad {bad}")?;
+            counts(out, nodes, edges)
         }
         Judged::MayRunOff(node, action, variable, high, nodes, edges) => {
-            run_off(node, action, variable, high);
-            counts(nodes, edges);
+            run_off(out, node, action, variable, high)?;
+            counts(out, nodes, edges)
         }
-        Judged::Refused(r) => refused(r),
+        Judged::Refused(r) => refused(out, r),
     }
 }
 
@@ -93,10 +86,8 @@ fn after(first: u32, i: usize) -> u32
 fn fill(list: &mut [u32], first: u32)
     requires { (length list.old ≤ 16384) × (first < 4278190080) }
 {
-    let mut i: usize = 0;
-    while i < list.len() {
-        list[i] = after(first, i);
-        i += 1;
+    for (i, place) in list.iter_mut().enumerate() {
+        *place = after(first, i);
     }
 }
 
@@ -109,163 +100,194 @@ fn long(word: u32) -> u64
 // The words of a list in one number below a prime near 2^32, which hangs on each of them and on their order.
 fn digest(list: &[u32]) -> u64 {
     let mut h: u64 = 0;
-    let mut i: usize = 0;
-    while i < list.len() {
-        h = (h % 4294967291 * 1000003 + long(list[i]) + 1) % 4294967291;
-        i += 1;
+    for word in list {
+        h = (h % 4294967291 * 1000003 + long(*word) + 1) % 4294967291;
     }
     h
 }
 
-fn listed(l: Listed) {
+fn listed<W: Write>(out: &mut W, l: Listed) -> io::Result<()> {
     match l {
         Listed::All(n) => {
-            io::write_all(1, b"FINDINGS");
-            number(n);
+            write!(out, "FINDINGS")?;
+            number(out, n)
         }
-        Listed::Refused(r) => refused(r),
+        Listed::Refused(r) => refused(out, r),
     }
 }
 
 // Judge, or Findings with what is else the path list.
-fn answer(call: u32, program: &[u32], lemmas: &[u32], graph: &mut [u32], path: &mut [u32]) {
+fn answer<W: Write>(
+    out: &mut W,
+    call: u32,
+    program: &[u32],
+    lemmas: &[u32],
+    graph: &mut [u32],
+    path: &mut [u32],
+) -> io::Result<()> {
     if call == 4 {
-        judged(judge::judge(program, lemmas, &mut *graph, &mut *path));
+        judged(out, judge::judge(program, lemmas, &mut *graph, &mut *path))
     } else {
-        listed(findings::findings(program, lemmas, &mut *graph, &mut *path));
+        listed(
+            out,
+            findings::findings(program, lemmas, &mut *graph, &mut *path),
+        )
     }
 }
 
 // The answer, and the lent lists at exit.
-fn with_lists(call: u32, program: &[u32], lemmas: &[u32], graph: &mut [u32], path: &mut [u32])
+fn with_lists<W: Write>(
+    out: &mut W,
+    call: u32,
+    program: &[u32],
+    lemmas: &[u32],
+    graph: &mut [u32],
+    path: &mut [u32],
+) -> io::Result<()>
     requires { (length graph.old ≤ 16384) × (length path.old ≤ 16384) }
 {
     fill(&mut *graph, 0xA500_0000);
     fill(&mut *path, 0x5A00_0000);
-    answer(call, program, lemmas, &mut *graph, &mut *path);
-    io::write_all(1, b" GRAPH ");
-    io::print_decimal(1, digest(&graph[..]));
-    if call == 4 {
-        io::write_all(1, b" PATH ");
-    } else {
-        io::write_all(1, b" LIST ");
-    }
-    io::print_decimal(1, digest(&path[..]));
+    answer(out, call, program, lemmas, &mut *graph, &mut *path)?;
+    let of_graph = digest(&graph[..]);
+    let of_path = digest(&path[..]);
+    let name = if call == 4 { "PATH" } else { "LIST" };
+    write!(out, " GRAPH {of_graph} {name} {of_path}")
 }
 
 // The answer, with lent lists of these lengths.
-fn answer_with(call: u32, program: &[u32], lemmas: &[u32], graph_words: usize, path_words: usize) {
+fn answer_with<W: Write>(
+    out: &mut W,
+    call: u32,
+    program: &[u32],
+    lemmas: &[u32],
+    graph_words: usize,
+    path_words: usize,
+) -> io::Result<()> {
     if graph_words <= 16384 {
         if path_words <= 16384 {
             let mut graph = little::space();
             let mut path = little::space();
             with_lists(
+                out,
                 call,
                 program,
                 lemmas,
                 &mut graph[..graph_words],
                 &mut path[..path_words],
-            );
+            )?;
         }
     }
+    Ok(())
 }
 
 // The line of a vector, by the number of its call.
-fn line(
+fn line<W: Write>(
+    out: &mut W,
     call: u32,
     k: usize,
     program: &[u32],
     lemmas: &[u32],
     graph_words: usize,
     path_words: usize,
-) {
+) -> io::Result<()> {
     match call {
-        3 => asked(ask::ask(program, lemmas, k)),
-        4 => answer_with(4, program, lemmas, graph_words, path_words),
-        5 => answer_with(5, program, lemmas, graph_words, path_words),
-        _ => {
-            io::write_all(1, b"NO SUCH CALL");
-        }
+        3 => asked(out, ask::ask(program, lemmas, k))?,
+        4 => answer_with(out, 4, program, lemmas, graph_words, path_words)?,
+        5 => answer_with(out, 5, program, lemmas, graph_words, path_words)?,
+        _ => write!(out, "NO SUCH CALL")?,
     }
-    io::write_all(1, b"\n");
+    writeln!(out)
 }
 
 // A vector without its count of words.
-fn vector(words: &[u32])
+fn vector<W: Write>(out: &mut W, words: &[u32]) -> io::Result<()>
     requires { length words.now ≤ 16384 }
 {
     if words.len() < 6 {
-        return;
+        return Ok(());
     }
     let n = wide(words[2]);
     let m = wide(words[3]);
     let end = 6 + n;
     if words.len() != end + m {
-        return;
+        return Ok(());
     }
     line(
+        out,
         words[0],
         wide(words[1]),
         &words[6..end],
         &words[end..],
         wide(words[4]),
         wide(words[5]),
-    );
+    )
 }
 
 // The vector whose n words are the bytes.
-fn on_bytes(b: &[u8], n: usize)
+fn on_bytes<W: Write>(out: &mut W, b: &[u8], n: usize) -> io::Result<()>
     requires { (n * 4 ≤ length b.now) × (n ≤ 16384) }
 {
     let mut space = little::space();
     little::to_words(b, &mut space, n);
-    vector(&space[..n]);
+    vector(out, &space[..n])
+}
+
+// The bytes that come next, n of them or as many as there are.
+fn next_bytes<R: Read>(alloc: Global, input: &mut R, n: usize) -> io::Result<Vec<u8>> {
+    let mut bytes = Vec::new(alloc);
+    input.by_ref().take(n as u64).read_to_end(&mut bytes)?;
+    Ok(bytes)
 }
 
 // The count of words that comes next; 0 where the input ends.
-fn next_count() -> usize {
-    let mut b = [0u8; 4];
-    let got = io::read_full(0, &mut b);
-    if got < 4 {
-        return 0;
+fn next_count<R: Read>(alloc: Global, input: &mut R) -> io::Result<usize> {
+    let b = next_bytes(alloc, input, 4)?;
+    if b.len() < 4 {
+        return Ok(0);
     }
     let mut w = [0u32; 1];
-    little::to_words(&b[..], &mut w[..], 1);
-    wide(w[0])
+    little::to_words(&b, &mut w[..], 1);
+    Ok(wide(w[0]))
 }
 
-// The vector of n words whose bytes come next, in room for just these. Was it there?
-fn read_vector(b: &mut [u8], n: usize) -> bool
-    requires { (n * 4 ≤ length b.old) × (n ≤ 16384) }
+// The vector of n words whose bytes come next. Was it there?
+fn read_vector<R: Read, W: Write>(
+    alloc: Global,
+    input: &mut R,
+    out: &mut W,
+    n: usize,
+) -> io::Result<bool>
+    requires { n ≤ 16384 }
 {
-    let got = io::read_full(0, &mut *b);
-    if got < b.len() {
-        return false;
+    let b = next_bytes(alloc, input, n * 4)?;
+    if b.len() < n * 4 {
+        return Ok(false);
     }
-    on_bytes(&b[..], n);
-    true
+    on_bytes(out, &b, n)?;
+    Ok(true)
 }
 
 // The next vector. Was there one?
-fn next() -> bool {
-    let n = next_count();
+fn next<R: Read, W: Write>(alloc: Global, input: &mut R, out: &mut W) -> io::Result<bool> {
+    let n = next_count(alloc, input)?;
     if n == 0 {
-        return false;
+        return Ok(false);
     }
     if n > 16384 {
-        return false;
+        return Ok(false);
     }
-    let mut buf = io::large_buffer();
-    read_vector(&mut buf[..n * 4], n)
+    read_vector(alloc, input, out, n)
 }
 
 // At most 4,096 vectors.
-fn main() {
-    let mut i: usize = 0;
-    while i < 4096 {
-        if !next() {
-            return;
+fn main(rt: HostRuntime) -> io::Result<()> {
+    let mut input = rt.stdin();
+    let mut out = BufWriter::new(rt.alloc(), io::writer(&rt))?;
+    for _ in 0..4096 {
+        if !next(rt.alloc(), &mut input, &mut out)? {
+            break;
         }
-        i += 1;
     }
+    out.flush()
 }
