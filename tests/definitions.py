@@ -203,7 +203,7 @@ class Crates:
 
     def in_order(self):
         """The files that have been read, from the bottom up as crates.txt has the crates, each crate's as its Lib.antt has them."""
-        crates = re.findall(r"^(\w+):", (ROOT / "crates.txt").read_text(), re.M)
+        crates = re.findall(r"^(\w+)[^:\n]*:", (ROOT / "crates.txt").read_text(), re.M)
 
         def place(key):
             lib = self.files[key].path.with_name("Lib.antt").read_text()
