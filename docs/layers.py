@@ -21,8 +21,8 @@ SWEEPS, PULLS = 24, 200
 def listed(text):
     """Each crate and the crates that it uses, of those listed."""
     lines = [line.split("#")[0].split(":") for line in text.splitlines() if ":" in line.split("#")[0]]
-    names = [name.strip() for name, _ in lines]
-    return {name.strip(): [crate for crate in used.split() if crate in names] for name, used in lines}
+    names = [name.split()[0] for name, _ in lines]
+    return {name.split()[0]: [crate for crate in used.split() if crate in names] for name, used in lines}
 
 
 def direct(uses):

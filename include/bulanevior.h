@@ -5,7 +5,7 @@
  * The calls read such a list, step its actions, weigh lemmas about it, and judge whether any list of actions can bring the show
  * into a forbidden state or run a variable off its range. A desk that has the bytes of a show file calls bnv_show and needs no other.
  *
- * Link libbulanevior.a, which `./install` puts in place, or target/staticlib/libexports.a, which `rt staticlib exports` writes: they are the
+ * Link libbulanevior.a, which `./install` puts in place, or target/staticlib/libexports.a, which `./build library` writes: they are the
  * same, for x86-64 Linux. It needs memcpy and memset and nothing else. docs/EMBEDDING.md has the lines; bulanevior_text.h has sentences for
  * every answer.
  *

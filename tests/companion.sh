@@ -18,7 +18,7 @@ fail() { # LINE
 }
 
 [ -x "$bin" ] && [ -x "$facts" ] || fail "$1 or $2 is no program"
-[ -f "$library" ] || rt staticlib exports >"$room/rt" 2>&1 || { cat "$room/rt"; exit 1; }
+[ -f "$library" ] || ./build library >"$room/rt" 2>&1 || { cat "$room/rt"; exit 1; }
 strict="-std=c11 -O2 -Wall -Wextra -Werror -pedantic -Iinclude -Iexamples"
 cc $strict examples/findings.c "$library" -o "$example"
 # Records without the distance, as older libraries leave them: node 3 of one action is looked for where the ORIGIN word of node 4 stands.
@@ -249,10 +249,10 @@ version=$(sed -n 's/^version = "\(.*\)"$/\1/p' wrapper/Cargo.toml)
 # ---- ./bulanevior, in a tree of its own, with stand-ins for rt and cargo that note each call
 
 export tree=$room/tree tools=$room/tools builders=$room/builders
-mkdir -p "$tree/crates/one" "$tree/companion/src" "$tree/wrapper/src" "$tools" "$builders"
-cp bulanevior "$tree"
+mkdir -p "$tree/crates/one" "$tree/crates/exports" "$tree/companion/src" "$tree/wrapper/src" "$tools" "$builders"
+cp bulanevior build "$tree"
 touch "$tree"/{crates.txt,{companion,wrapper}/{Cargo.toml,Cargo.lock,src/code},wrapper/build.rs}
-for tool in bash dirname readlink find mkdir mv rm cat chmod touch sleep; do
+for tool in bash dirname readlink find mkdir mv cp rm cat chmod touch sleep; do
     ln -s "$(command -v "$tool")" "$tools/$tool"
 done
 # What is built says its arguments, each in brackets, and its standard input; its status is 3.
@@ -268,14 +268,14 @@ chmod +x "$tree/target/companion/release/bulanevior"
 END
 cat >"$builders/rt" <<'END'
 #!/bin/bash
-[ "$*" != --version ] || { echo "the kit"; exit; }
+[ "$*" != version ] || { echo "the kit"; exit; }
 echo "rt $* in $PWD" >>"$room/calls"
-mkdir -p "$tree/target/staticlib"
-: >"$tree/target/staticlib/libexports.a"
+mkdir -p out
+: >out/libexports.a
 END
 ln -s cargo "$builders/rustc"
 chmod +x "$builders"/*
-rt_call="rt staticlib exports in $tree"
+rt_call="rt lib in $tree/crates/exports"
 cargo_call="cargo build --release --offline --target-dir $tree/target/companion in $tree/companion over $tree/target/staticlib"
 
 # The program is run, behind these calls, of which standard error has a line each.

@@ -6,15 +6,17 @@ import re
 from pathlib import Path
 
 ROOT = Path(__file__).resolve().parent.parent
-LIBRARIES = ("mathlib", "Prim", "lib", "mir", "native", "borrow", "Rattle·io", "Rattle·libc", "Rattle·os", "Rattle·std")
+# The kit's: what its paths begin with, and the libraries behind `Rattle.`.
+LIBRARIES = ("mathlib", "Prim", "lib", "mir", "native", "borrow")
+OF_THE_KIT = ("core", "io", "libc", "os", "std", "std_alloc", "std_collections", "std_heap", "std_io")
 MODIFIERS = {"abbrev", "unfoldable", "opaque", "pub"}
 LANGUAGE = {
     "→", "×", "=", ":", "λ", ".", "record", "do", "let", "in", "←", "_", "Type", "Unit", "⊥", "∷", "[]", ";", ",", "(", ")", "{", "}",
-    "now", "⌜", "⌝", "where", "[", "]",
+    "where", "[", "]",
 }
 # Stands in a definition whose clauses are beyond the scripts, as proofs may be: an error where it is reached.
 UNREAD = "a clause that the scripts cannot read"
-TOKEN = re.compile(r'"[^"]*"|\[\]|[(){}\[\];,λ⌜⌝]|[^\s(){}\[\];,λ⌜⌝"]+')
+TOKEN = re.compile(r'"[^"]*"|\[\]|[(){}\[\];,λ]|[^\s(){}\[\];,λ"]+')
 
 
 class Unknown(Exception):
@@ -80,12 +82,22 @@ def used_names(line):
         yield path, names
 
 
+def types_used(text):
+    """What a source file takes from other crates by `use CRATE::NAME;` or `use CRATE::{NAME, NAME};`: each name and its crate."""
+    return {name: crate for crate, names in re.findall(r"^use (\w+)::(\w+|\{[^}]*\});", text, re.M) for name in re.findall(r"\w+", names)}
+
+
 def mixfix(table, name):
-    """Every part of a name such as `_++_` stands for it."""
-    if "_" in name and name != "_":
-        for part in name.split("_"):
+    """Every part of a name such as `◌++◌` stands for it."""
+    if "◌" in name:
+        for part in name.split("◌"):
             if part:
                 table.setdefault(part, name)
+
+
+def head(name):
+    """What a projection such as `p.ranges` or `words.now` begins with."""
+    return name.split(".")[0]
 
 
 class Walk:
@@ -142,7 +154,7 @@ class Walk:
                 pass
             elif t in LANGUAGE or t.startswith(".") or t.startswith('"') or re.fullmatch(r"[0-9][0-9A-Fa-fx_]*", t):
                 pass
-            elif not any(t in s for s in self.scopes):
+            elif not any(t in s or head(t) in s for s in self.scopes):
                 self.found.append(t)
             i += 1
 
@@ -174,7 +186,7 @@ class Crates:
     def read_types(self, path):
         crate = path.parts[-3]
         text = re.sub(r"//.*", "", path.read_text())
-        uses = dict((t, c) for c, t in re.findall(r"^use (\w+)::(\w+);", text, re.M))
+        uses = types_used(text)
         for kind, name, tail in re.findall(r"\b(struct|enum) (\w+)(?:<'a>)?\s*((?:\{[^}]*\})|(?:\([^)]*\);))", text):
             inside = " ".join(re.findall(r"\(([^)]*)\)", tail)) if kind == "enum" else tail
             named = {(uses.get(t, crate), t) for t in re.findall(r"\b[A-Z]\w*", inside)}
@@ -191,7 +203,7 @@ class Crates:
 
     def in_order(self):
         """The files that have been read, from the bottom up as crates.txt has the crates, each crate's as its Lib.antt has them."""
-        crates = re.findall(r"^(\w+):", (ROOT / "crates.txt").read_text(), re.M)
+        crates = re.findall(r"^(\w+)[^:\n]*:", (ROOT / "crates.txt").read_text(), re.M)
 
         def place(key):
             lib = self.files[key].path.with_name("Lib.antt").read_text()
@@ -201,8 +213,10 @@ class Crates:
 
     def use(self, table, parts, line):
         for path, names in used_names(line):
-            found = re.fullmatch(r"Rattle·(\w+)(?:·\w+)?\.(specs|proofs)\.(.*)", path)
-            if not found and path.split(".")[0] not in LIBRARIES:
+            found = re.fullmatch(r"Rattle\.(\w+)\.(specs|proofs)\.(.*)", path)
+            if found and found[1] in OF_THE_KIT:
+                found = None
+            elif not found and head(path) not in LIBRARIES:
                 raise Unknown(f"a path that cannot be read: {line}")
             for here, there in names.items():
                 table[here] = self.meant(*found.groups(), there) if found else None
@@ -248,19 +262,19 @@ class Crates:
     def bound(self, section):
         """A walk that knows the parameters of the sections around."""
         walk = Walk(())
-        for head in section:
-            walk.add(tokens(head)[2:])
+        for line in section:
+            walk.add(tokens(line)[2:])
         return walk
 
     def read_type(self, f, block, kind, section):
-        head = tokens(block[0][2])
+        line = tokens(block[0][2])
         fields = 1
-        while "where" not in head:
-            head += tokens(block[fields][2])
+        while "where" not in line:
+            line += tokens(block[fields][2])
             fields += 1
-        at = head.index(kind) + 1
-        d = self.define(f, head[at], kind, block, "pub" in head[:at])
-        walk = self.bound(section).add(head[at + 1:])
+        at = line.index(kind) + 1
+        d = self.define(f, line[at], kind, block, "pub" in line[:at])
+        walk = self.bound(section).add(line[at + 1:])
         for _, _, line in block[fields:]:
             ts = [t for t in tokens(line) if t != "pub"]
             if ":" in ts and all(t not in LANGUAGE for t in ts[:ts.index(":")]) and ts[0] not in ("→", "×"):
@@ -321,7 +335,6 @@ class Crates:
 
     def is_constructor(self, f, name):
         name = f.parts.get(name, name) if name not in f.own and name not in f.used else name
-        head = name.split(".")[0]
         if name in f.own:
             return f.own[name].kind == "data"
         if name in f.used:
@@ -332,7 +345,7 @@ class Crates:
                 return True
             d = self.lookup(what[1], what[2])
             return isinstance(d, Definition) and d.kind == "data"
-        return head != name and self.is_constructor(f, head)
+        return head(name) != name and self.is_constructor(f, head(name))
 
     # ---- names
     def lookup(self, key, name):
@@ -349,7 +362,7 @@ class Crates:
 
     def resolve(self, f_used, f_own, f_parts, name, where):
         """The definition or type that a name stands for; None for the libraries' names."""
-        for one in (name, f_parts.get(name), name.split(".")[0]):
+        for one in (name, f_parts.get(name), head(name)):
             if one in f_own:
                 return f_own[one]
             if one in f_used:
@@ -388,12 +401,12 @@ class Crates:
             clauses = re.split(r"\n\s*ensures\b[^{]*", header)
             if len(clauses) < 2:
                 raise Unknown(f"{crate}::{name} ensures nothing")
-            walk = Walk(re.findall(r"(\w+)\s*:", clauses[0]) + ["self"])
+            walk = Walk(re.findall(r"(\w+)\s*:", clauses[0]) + ["self", "result"])
             for clause in clauses[1:]:
                 inner = Walk(walk.scopes[0])
                 inner.add(clause)
                 found |= {r for r in (self.resolve(used, {}, parts, n, f"{crate}::{name}") for n in inner.found) if r is not None}
-            uses = dict((t, c) for c, t in re.findall(r"^use (\w+)::(\w+);", text, re.M))
+            uses = types_used(text)
             for t in set(re.findall(r"\b[A-Z]\w*", clauses[0])) - {"C", "Self"}:
                 found.add(("declared", uses.get(t, crate), t))
         if left:

@@ -1,6 +1,6 @@
 #!/bin/bash
 # The static library from C and from Rust: the header as C11 and as C++17, each call on Fade, and the examples on shows and in trouble, each in C and in
-# Rust; the two print the same and end with the same status. It prints `ok` at the end. `rt staticlib exports` is run only where the library is missing.
+# Rust; the two print the same and end with the same status. It prints `ok` at the end. `./build library` is run only where the library is missing.
 set -eu
 cd "$(dirname "$(readlink -f "$0")")/.."
 room=$(mktemp -d)
@@ -8,7 +8,7 @@ trap 'rm -rf "$room"' EXIT
 library=target/staticlib/libexports.a
 export CARGO_TARGET_DIR=$room/cargo
 
-[ -f "$library" ] || rt staticlib exports >"$room/rt" 2>&1 || { cat "$room/rt"; exit 1; }
+[ -f "$library" ] || ./build library >"$room/rt" 2>&1 || { cat "$room/rt"; exit 1; }
 
 strict="-O2 -Wall -Wextra -Werror -pedantic -Iinclude"
 compile() { # SOURCE PROGRAM

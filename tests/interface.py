@@ -47,16 +47,16 @@ BELOW = {
 # The limits that the code has no names for: the definition, and its names in the header.
 LIMITS = "crates/words/specs/Limits.antt"
 LIMITED = {
-    "mostVariables": ["BNV_MOST_VARIABLES"],
-    "mostRows": ["BNV_MOST_START_ROWS", "BNV_MOST_GUARD_ROWS", "BNV_MOST_ASSIGNMENTS"],
-    "mostPredicates": ["BNV_MOST_PREDICATES"],
-    "mostForbidden": ["BNV_MOST_FORBIDDEN"],
-    "leastConstant": ["BNV_LEAST_CONSTANT"],
-    "mostConstant": ["BNV_MOST_CONSTANT"],
-    "leastCoefficient": ["BNV_LEAST_COEFFICIENT"],
-    "mostCoefficient": ["BNV_MOST_COEFFICIENT"],
-    "mostMultiplier": ["BNV_MOST_MULTIPLIER"],
-    "mostLemmas": ["BNV_MOST_LEMMAS"],
+    "most_variables": ["BNV_MOST_VARIABLES"],
+    "most_rows": ["BNV_MOST_START_ROWS", "BNV_MOST_GUARD_ROWS", "BNV_MOST_ASSIGNMENTS"],
+    "most_predicates": ["BNV_MOST_PREDICATES"],
+    "most_forbidden": ["BNV_MOST_FORBIDDEN"],
+    "least_constant": ["BNV_LEAST_CONSTANT"],
+    "most_constant": ["BNV_MOST_CONSTANT"],
+    "least_coefficient": ["BNV_LEAST_COEFFICIENT"],
+    "most_coefficient": ["BNV_MOST_COEFFICIENT"],
+    "most_multiplier": ["BNV_MOST_MULTIPLIER"],
+    "most_lemmas": ["BNV_MOST_LEMMAS"],
 }
 # The functions of `words` whose contract says which bits of a word they give, and the macro that gives them.
 FIELDS = {
@@ -134,7 +134,7 @@ BNV_WORD(BNV_LEMMA, ((uint32_t)(source) & 255u) << 20 | ((uint32_t)(goal) & 15u)
 # What may not stand in the other texts: attributes but these, another ABI than C, comments that the reader does not know, and a `Default`.
 DERIVED = r"(?:(?:Clone|Copy|Debug|PartialEq|Eq)(?:, )?)+"
 STRAYS = {
-    RATTLE: r'#(?!\[repr\(C\)\]|\[no_mangle\]).*|\bextern\b(?! "C" fn bnv_).*|/\*.*',
+    RATTLE: r'#(?!\[repr\(C\)\]|\[derive\(Clone, Copy\)\]|\[unsafe\(no_mangle\)\]|!\[tactic\(auto\)\]).*|\bextern\b(?! "C" fn bnv_).*|/\*.*',
     RUST: r'#(?!\[repr\(C\)\]|\[derive\(%s\)\]).*|\bextern\b(?! "C" \{).*|/\*.*|\bDefault\b.*' % DERIVED,
 }
 # Changes of form: the text, what stands there, and what stands there afterwards.
@@ -163,7 +163,8 @@ FORMS = [
     (RUST, ": u32 =", ": u64 ="),
     (RATTLE, ": u32 =", ": u64 ="),
     (RATTLE, "#[repr(C)]", ""),
-    (RATTLE, "#[no_mangle]", ""),
+    (RATTLE, "#[unsafe(no_mangle)]", ""),
+    (RATTLE, "derive(Clone", "derive(Default, Clone"),
     (RATTLE, 'extern "C"', 'extern "Rust"'),
 ]
 C_TYPES = {"uint8_t": "u8", "uint32_t": "u32", "int32_t": "i32", "size_t": "usize"}
@@ -230,7 +231,7 @@ class Text:
             for found in re.finditer(STRAYS[name], self.plain):
                 raise Unread(f"`{found[0]}` may not stand here")
             self.take_records(r"#\[repr\(C\)\]\s*(?:#\[[^\]]*\]\s*)?pub struct (?P<name>\w+) \{(?P<items>[^}]*)\}", r"\bstruct\b")
-            before = r'#\[no_mangle\]\s*pub extern "C" ' if name == RATTLE else r"^    "
+            before = r'#\[unsafe\(no_mangle\)\]\s*pub extern "C" ' if name == RATTLE else r"^    "
             self.take_functions(before + r"fn (?P<name>bnv_\w+)\((?P<items>[^)]*)\)\s*->\s*(?P<result>\w+)", r"fn bnv_\w+")
             self.take_constants(r"\bpub const (BNV_\w+): (?:u32|i32) = ([^;]+);", r"\bconst BNV_")
 
@@ -348,7 +349,7 @@ def below(sources):
 def fields(sources):
     """Each field of FIELDS: its macro, whether it is signed, its highest and its lowest bit, and where these stand."""
     for function, macro in FIELDS.items():
-        found = re.search(rf"pub fn {function}\(w: u32\) -> \w+\s+ensures {{ λ r\. ⌜ \(?r ≡ (signed \d+ \(?)?(?:bits (\d+) (\d+) w|payload w)", sources[WORDS])
+        found = re.search(rf"pub fn {function}\(w: u32\) -> \w+\s+ensures {{ \(?result ≡ (signed \d+ \(?)?(?:bits (\d+) (\d+) w|payload w)", sources[WORDS])
         if not found:
             sys.exit(f"{WORDS}: {function} has no contract that names bits")
         yield macro, bool(found[1]), int(found[2] or 27), int(found[3] or 0), found.span(2)

@@ -14,7 +14,7 @@ fail() { # LINE
 
 program=${1-$room/cargo/release/kept}
 if [ $# -eq 0 ]; then
-    [ -f target/staticlib/libexports.a ] || rt staticlib exports >"$room/rt" 2>&1 || { cat "$room/rt"; exit 1; }
+    [ -f target/staticlib/libexports.a ] || ./build library >"$room/rt" 2>&1 || { cat "$room/rt"; exit 1; }
     (cd compare && CARGO_TARGET_DIR=$room/cargo cargo build --release --offline --quiet --bin kept)
 fi
 

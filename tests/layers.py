@@ -84,8 +84,8 @@ def cornered(element):
 def listed():
     """The uses of crates.txt, of the crates that it lists."""
     lines = [line.partition("#")[0].partition(":") for line in (ROOT / "crates.txt").read_text().splitlines()]
-    names = {name.strip() for name, colon, _ in lines if colon}
-    return {name.strip(): names & set(used.split()) for name, colon, used in lines if colon}
+    names = {name.split()[0] for name, colon, _ in lines if colon}
+    return {name.split()[0]: names & set(used.split()) for name, colon, used in lines if colon}
 
 
 def closed(uses):

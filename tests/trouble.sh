@@ -156,8 +156,8 @@ troubled "judge: --help with no space" "cannot write to standard output" './judg
 
 # ---- a program that prints something else, in a tree of its own
 export tree=$room/tree tools=$room/tools
-mkdir -p "$tree/target/bin" "$tree/crates/one" "$tree/wrapper"
-cp judge "$tree/judge"
+mkdir -p "$tree/target/bin" "$tree/crates/one" "$tree/crates/operator" "$tree/wrapper"
+cp judge build "$tree"
 touch "$tree/crates.txt"
 fake() { # BODY
     printf '#!/bin/bash\n%s\n' "$1" >"$tree/target/bin/operator"
@@ -188,32 +188,32 @@ told "judge: a finding" "$room/finding" 1 '$tree/judge $fade'
 
 # ---- building, with a stand-in for rt that notes each call
 mkdir "$tools" "$room/rt"
-for tool in bash dirname readlink find mkdir mv sed cat chmod tr touch rm sleep; do
+for tool in bash dirname readlink find mkdir mv cp sed cat chmod tr touch rm sleep; do
     ln -s "$(command -v "$tool")" "$tools/$tool"
 done
 cat >"$room/rt/rt" <<'END'
 #!/bin/bash
-[ "$*" != --version ] || { echo "the kit"; exit; }
+[ "$*" != version ] || { echo "the kit"; exit; }
 echo "$* in $PWD" >>"$room/calls"
 [ -z "$(cat)" ] || echo "standard input is not empty" >>"$room/calls"
 echo "rt: on standard output"
 echo "rt: on standard error" >&2
 [ ! -e "$room/fails" ] || exit 1
-[ ! -e "$room/edits" ] || { sleep 0.1; touch crates/one/code; sleep 0.1; rm "$room/edits"; }
-mkdir -p target/bin
-[ -e "$room/keeps" ] || printf '#!/bin/bash\necho "SAFE nodes 7 edges 7"\n' >target/bin/operator
-chmod +x target/bin/operator
+[ ! -e "$room/edits" ] || { sleep 0.1; touch "$tree/crates/one/code"; sleep 0.1; rm "$room/edits"; }
+mkdir -p out
+[ -e "$room/keeps" ] || printf '#!/bin/bash\necho "SAFE nodes 7 edges 7"\n' >out/operator
+chmod +x out/operator
 END
 chmod +x "$room/rt/rt"
 echo "SAFE nodes 7 edges 7" >"$room/seven"
 called() { # TIMES
-    [ "$(cat "$room/calls" 2>/dev/null | grep -c "^check operator in $tree$")" = "$1" ] && [ "$(cat "$room/calls" 2>/dev/null | wc -l)" = "$1" ]
+    [ "$(cat "$room/calls" 2>/dev/null | grep -c "^run in $tree/crates/operator$")" = "$1" ] && [ "$(cat "$room/calls" 2>/dev/null | wc -l)" = "$1" ]
 }
 # The verdict of the built program, with the one line about the build, and what rt says in the log alone.
 built() { # NAME CALLS LINES
     run now "PATH=$room/rt:$tools $tree/judge \$fade"
     cmp -s "$room/now.out" "$room/seven" && [ "$(<"$room/now.status")" = 0 ] && [ "$(wc -l <"$room/now.err")" = "$3" ] && called "$2" \
-        && { [ "$3" = 0 ] || [[ $(<"$room/now.err") == "bulanevior: building once, about 5 minutes; the log is $tree/target/judge.log" ]]; } \
+        && { [ "$3" = 0 ] || [[ $(<"$room/now.err") == "bulanevior: proving and building once; the log is $tree/target/judge.log" ]]; } \
         && [ "$(<"$tree/target/judge.log")" = "$(printf 'rt: on standard output\nrt: on standard error')" ]
     say "$1" $?
 }

@@ -1,4 +1,4 @@
-//! Links the static library: the repository's target/staticlib/libexports.a, which `rt staticlib exports` writes, or the libbulanevior.a
+//! Links the static library: the repository's target/staticlib/libexports.a, which `./build library` writes, or the libbulanevior.a
 //! that `./install` put in place; they are the same. BULANEVIOR_LIB names the folder where it is another one.
 use std::path::{Path, PathBuf};
 
@@ -22,7 +22,7 @@ fn main() {
     println!("cargo:rerun-if-env-changed=BULANEVIOR_LIB");
     let Some((folder, name)) = folders().into_iter().find_map(library) else {
         panic!(
-            "the library is in none of {:?}: run `rt staticlib exports`, or name its folder in BULANEVIOR_LIB",
+            "the library is in none of {:?}: run `./build library`, or name its folder in BULANEVIOR_LIB",
             folders()
         );
     };

@@ -1,5 +1,6 @@
 // The calls for C and Rust: lists are lent, answers are records of numbers. include/bulanevior.h describes them for their callers.
 #![tactic(auto)]
+
 ghost use Rattle.std.specs.Prelude.{◌≡◌, cond, ◌↔◌, ◌+◌, ◌≤◌, pos, ◌<ℤ◌, length, take, drop};
 ghost use Rattle.programs.specs.Calls.{read, check, action_part, part_place};
 ghost use Rattle.runs.specs.declared.Stepped.TheVariants.{NotEnabled};

@@ -5,7 +5,7 @@
 -- pure     — reads nothing
 -- due      — the refusal, unless the test holds
 -- after    — goes on with what was read
--- _>>=_    — one reader after another; `do` is sugar for it
+-- ◌>>=◌    — one reader after another; `do` is sugar for it
 -- one      — one word of a kind, by three tests
 -- always   — the test that every word passes
 -- begins   — is the next word of this kind?

@@ -34,7 +34,8 @@ fn enter_next(
     next: Successor,
 ) -> Explored
     requires fit { Fit next }
-    requires graph_words_in_bounds { (graph_words ≤ length graph.old) × (hint_count ≤ length hints.old) × (nodes ≤ most_nodes) × (actions ≤ 16) × (k < nodes) × (j < actions)
+    requires graph_words_in_bounds { (graph_words ≤ length graph.old) × (hint_count ≤ length hints.old) × (nodes ≤ most_nodes)
+        × (actions ≤ 16) × (k < nodes) × (j < actions)
         × (edges ≤ k * actions + j) × Near graph.old actions nodes }
     ensures { Turned (λ h. answered most_nodes h (From k j) (answer_of next)) graph.old actions nodes edges (k * actions + j) result
         graph.new (k * actions + j + 1) }

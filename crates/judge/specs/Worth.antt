@@ -1,11 +1,11 @@
 -- What Judge's answer, with what it leaves in the two lent lists, is worth.
 --
--- OfList, OfRead      — a claim about the program and the lemmas that two lists of words are
--- Drawn               — a list holds the records of a graph that is formula (3)'s, with these counts; 512 nodes are enough
--- Walked              — a list holds the steps of a walk in a graph from node 0 to a node, as many as its distance
+-- OfList, OfRead — a claim about the program and the lemmas that two lists of words are
+-- Drawn          — a list holds the records of a graph that is formula (3)'s, with these counts; 512 nodes are enough
+-- Walked         — a list holds the steps of a walk in a graph from node 0 to a node, as many as its distance
 -- GraphLeft, PathLeft — the first, of the words that were read; both
--- Demand2Of           — of an answer: a verdict leaves the graph with its counts, and a finding the walk to its node; refusal 7 says that too many are reachable
--- SafeOf              — demand 3, of the program that the words are
+-- Demand2Of      — of an answer: a verdict leaves the graph with its counts, and a finding the walk to its node; refusal 7 says that too many are reachable
+-- SafeOf         — demand 3, of the program that the words are
 use Rattle.std.specs.Prelude.{◌≡◌, List, ℕ, ◌≤◌, length}
 use Rattle.words.specs.declared.Refusal.TheVariants.{Nodes}
 use Rattle.grammar.specs.Reading.{Read, got, refused}

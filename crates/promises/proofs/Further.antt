@@ -4,7 +4,7 @@
 --   rack::rack_step(ws, k, s)           r and s at exit are those of rack_call ws k s                                  crates/rack/src/lib.rt
 --   runs::step, rack::rack_step         Guarded (ready (read ws) k s) k s r                                           crates/runs/src/lib.rt, crates/rack/src/lib.rt
 --   judge::judge, report::report        ShortestOf ws ls r, of g and p at exit; if what was written ends with path_line js, ShortestShow input (length js)  crates/judge/src/lib.rt, crates/report/src/lib.rt
---   exports::bnv_findings, _rack_step   the same, r as the records of numbers findings_of and stepOf; the rack's answer is not 2; of both steps it is 1 exactly where row_value is below 0  crates/exports/src/lib.rt
+--   exports::bnv_findings, _rack_step   the same, r as the records of numbers findings_of and step_of; the rack's answer is not 2; of both steps it is 1 exactly where row_value is below 0  crates/exports/src/lib.rt
 use mathlib.Core.{Path.{◌≡◌}, Bool.{true, false, cond}, Logic.{◌⊎◌, ◌↔◌}, List.{List, ◌∷◌, ◌++◌, map, Memᴰ}}
 use Prim.Native.Nat.{ℕ, ◌+◌, ◌^◌, ◌≤◌, ◌<◌}
 use lib.{Dec.{eqb}, IntN.{ℤ, pos, ◌+ℤ◌, ◌*ℤ◌}, Signed.{◌≤ℤ◌}, ListN.{length, get_or}}

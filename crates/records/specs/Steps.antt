@@ -1,17 +1,17 @@
 -- What the steps of a search do to the list that it writes the records in.
 --
 -- origin_offset — where in a record its origin stands
--- headed        — a list with a record at a place: its word, the words of its origin and its distance, as yet no edges
--- explored_of   — what a search answers: the number of nodes and of edges that lead to a node, or that there are too many nodes
--- column        — word c of each of the first n records
--- hint_count    — how many hints there are: guesses where a word stands
--- Firsts        — each word of a list is first found where it stands
--- Near          — the distance of each of the first n nodes is at most its number
--- Kept          — the list, which was l₀, begins with the n nodes of g, has its e edges, of which x lead to a node, no word twice, and behind the n records is l₀
--- Mid           — the same of a result and an answer
--- Fair          — the nodes that an answer counts have not fallen, are at most most_nodes, and are Near; the edges that it counts are at most e
--- Turned        — one step: whatever graph g the list holds before it, the list holds f g after it, and past its room is as it was
--- Filled        — what a search leaves of a list that was l₀, where it does not clear what it left when there are too many nodes
+-- headed      — a list with a record at a place: its word, the words of its origin and its distance, as yet no edges
+-- explored_of — what a search answers: the number of nodes and of edges that lead to a node, or that there are too many nodes
+-- column      — word c of each of the first n records
+-- hint_count  — how many hints there are: guesses where a word stands
+-- Firsts      — each word of a list is first found where it stands
+-- Near        — the distance of each of the first n nodes is at most its number
+-- Kept        — the list, which was l₀, begins with the n nodes of g, has its e edges, of which x lead to a node, no word twice, and behind the n records is l₀
+-- Mid         — the same of a result and an answer
+-- Fair        — the nodes that an answer counts have not fallen, are at most most_nodes, and are Near; the edges that it counts are at most e
+-- Turned      — one step: whatever graph g the list holds before it, the list holds f g after it, and past its room is as it was
+-- Filled      — what a search leaves of a list that was l₀, where it does not clear what it left when there are too many nodes
 use Rattle.std.specs.Prelude.{ℕ, zero, suc, ◌+◌, ◌*◌, ◌<◌, ◌≤◌, ◌≡◌, List, [], ◌∷◌, ◌++◌, map, length, drop, get_or, set}
 use Rattle.search.specs.Search.{Graph, Result, Done, Over, count, links, edge, seek}
 use Rattle.records.specs.Records.{origin_word, distance_word, edge_word, most_nodes, graph_words, distance_offset, record_place, edge_place, records_of}

@@ -1,13 +1,13 @@
 -- The lines that the operator's program prints for the bytes of a show.
 --
--- lines_room                                                                         — how many bytes the lines of a show have room in
--- zeros                                                                              — a fresh list
+-- lines_room   — how many bytes the lines of a show have room in
+-- zeros        — a fresh list
 -- safe_line, forbid_line, end_text, run_off_line, refused_line, step_text, path_line — the lines, each with its newline, and their parts
--- answer_lines, shown_lines                                                          — the lines of Judge's answer and its path list; of an answer for a show's bytes
--- lines_of                                                                           — the lines of any bytes
--- written                                                                            — what goes to a list of bytes: the lines; nothing if it has under 4,096
--- Begins, Ends                                                                       — a list begins, ends with another
--- ShortestShow                                                                       — request 7: the bytes hold a program and lemmas; no walk in their graph from node 0 to a node with a finding has fewer than n steps, and
+-- answer_lines, shown_lines — the lines of Judge's answer and its path list; of an answer for a show's bytes
+-- lines_of     — the lines of any bytes
+-- written      — what goes to a list of bytes: the lines; nothing if it has under 4,096
+-- Begins, Ends — a list begins, ends with another
+-- ShortestShow — request 7: the bytes hold a program and lemmas; no walk in their graph from node 0 to a node with a finding has fewer than n steps, and
 --                every run with fewer moves is safe
 use Rattle.std.specs.Prelude.{◌≡◌, Bool, cond, List, [], ◌∷◌, ◌++◌, ℕ, ltb, length, take, replicate}
 use Rattle.words.specs.declared.Refusal.{Refusal}

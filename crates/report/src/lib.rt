@@ -1,5 +1,6 @@
 // What the operator's program prints for the bytes of a show.
 #![tactic(auto)]
+
 ghost use Rattle.std.specs.Prelude.{◌≡◌, List, ◌++◌, ℕ, ◌+◌, ◌<◌, ◌≤◌, length, take, drop};
 ghost use Rattle.records.specs.Records.{graph_words};
 ghost use Rattle.verdict.specs.Verdicts.{path_words, steps_in};

@@ -1,17 +1,17 @@
 -- The breadth-first exploration over any successor function: words are numbers, actions are 0 .. a - 1. Everything computes.
 --
--- Answer                                   — a successor, or none
--- Origin                                   — where a node was first found: at the start, or from a parent by an action
--- Graph                                    — four lists that only grow: each node's word, its origin, its distance, and its a edges (node i, action j at i * a + j)
--- Result                                   — a graph, or one node too many
--- pick_n, seek                             — the first place of a word among others, or their count
+-- Answer                          — a successor, or none
+-- Origin                          — where a node was first found: at the start, or from a parent by an action
+-- Graph                           — four lists that only grow: each node's word, its origin, its distance, and its a edges (node i, action j at i * a + j)
+-- Result                          — a graph, or one node too many
+-- pick_n, seek                    — the first place of a word among others, or their count
 -- count, node_word, origin, distance, edge — the nodes of a graph, and what belongs to one
--- distance_by                              — the distance of a node with this origin, given those of all nodes
--- links_in, links                          — the number of edges that lead to a node
--- empty, stored, linked                    — no node; one node more; one edge more
--- placed, rooted, begun, answered          — the graph with a word looked up; with node 0; at the start; after one action's turn, given its answer
--- acted, turns                             — after one action's turn; after the first j actions of node k
--- nodeIf, node, visited, explored          — after node k's turn; after the first k nodes; after all
+-- distance_by                     — the distance of a node with this origin, given those of all nodes
+-- links_in, links                 — the number of edges that lead to a node
+-- empty, stored, linked           — no node; one node more; one edge more
+-- placed, rooted, begun, answered — the graph with a word looked up; with node 0; at the start; after one action's turn, given its answer
+-- acted, turns                    — after one action's turn; after the first j actions of node k
+-- nodeIf, node, visited, explored — after node k's turn; after the first k nodes; after all
 use Rattle.std.specs.Prelude.{ℕ, zero, suc, ◌+◌, ◌*◌, Bool, true, false, List, [], ◌∷◌, ◌++◌, length, get_or, eqb, ltb}
 
 pub data Answer : Type 0 where

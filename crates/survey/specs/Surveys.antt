@@ -1,7 +1,7 @@
 -- What every judging of a show begins with: the program read, its lemmas read and weighed, and the graph explored.
 --
--- Survey                                      — how that ends: a refusal, with the graph list as it leaves it; or a program, its lemmas and their graph, with its records in the graph list
--- survey_graph, survey_lemmas, survey_program — the survey of lists of words over a graph list that is long enough; refusals in the order 2 to 4, 5 and 6, 11, 7
+-- Survey — how that ends: a refusal, with the graph list as it leaves it; or a program, its lemmas and their graph, with its records in the graph list
+-- survey_graph, survey_lemmas, survey_program — the survey of lists of words over a graph list long enough; refusals in the order 2 to 4, 5 and 6, 11, 7
 use Rattle.std.specs.Prelude.{cond, List, ℕ, ltb, length}
 use Rattle.words.specs.declared.Refusal.{Refusal}
 use Rattle.words.specs.declared.Refusal.TheVariants.{Nodes, Sum}

@@ -3,12 +3,12 @@
 -- most_variables, most_rows, most_predicates, most_actions, most_forbidden — how many of them a program may have; the rows are those of
 --                            the start or of a guard, and an action has no more assignments than that
 -- least_constant, most_constant, least_coefficient, most_coefficient — from -1,000,000 to 1,000,000; from -1,000 to 1,000
--- most_multiplier                                                    — how large a lemma's multipliers may be
--- START                                                              — the source that stands for the start
--- most_lemmas, most_nodes                                            — how many lemmas a list may have; how many nodes a graph
--- header                                                             — how many words of a node's record come before its edges: its literals, its origin and its distance
--- graph_words, path_words                                            — how many words the records of a graph have room in, and the steps of a path
--- most_findings                                                      — how many findings a graph may have: at each node its combinations, and both ends of each variable that its actions set
+-- most_multiplier         — how large a lemma's multipliers may be
+-- START                   — the source that stands for the start
+-- most_lemmas, most_nodes — how many lemmas a list may have; how many nodes a graph
+-- header                  — how many words of a node's record come before its edges: its literals, its origin and its distance
+-- graph_words, path_words — how many words the records of a graph have room in, and the steps of a path
+-- most_findings           — how many findings a graph may have: at each node its combinations, and both ends of each variable that its actions set
 use Rattle.std.specs.Prelude.{ℕ, ◌+◌, ◌*◌, ℤ, pos, negsuc}
 
 abbrev pub most_variables : ℕ
