@@ -1,8 +1,7 @@
 -- Demand 2: the graph of a lemma list is the one that formula (3) describes.
 use mathlib.Core.Path.{◌≡◌, refl, sym, ap, ◌∙◌}
-use mathlib.Core.Logic.{inl, inr, ⊎_elim}
 use mathlib.Core.List.{List, [], map}
-use Prim.Native.Nat.{ℕ, suc, ◌+◌, ◌*◌, ◌<◌}
+use Prim.Native.Nat.{ℕ, suc, ◌<◌}
 use native.Mathlib.Omega.{arith}
 use lib.ListN.{length, get_or, length-map}
 use Rattle.integers.proofs.Fill.{get_d_mapped}
@@ -15,14 +14,14 @@ use Rattle.words.specs.LiteralSets.{Literal}
 use Rattle.formula.specs.Formula.{Monomial, False, And}
 use Rattle.search.specs.Search.{Answer, To, None, Origin, Root, From, Graph, Result, Done, Over, seek, count, node_word, origin, edge}
 use Rattle.search.proofs.Reach.{Distinct, AllOf, Many}
-use Rattle.search.proofs.Count.{lt_or_le, row_below, seek_found}
+use Rattle.search.proofs.Count.{seek_found}
 use Rattle.search.proofs.Numbered.{Earlier as EarlierBy}
 use Rattle.search.proofs.Sound.{Comes}
 use Rattle.search.proofs.Sound.{Leads as LeadsBy}
 use Rattle.search.proofs.Theorem.{to_inj, not_none, Whole, whole, over}
 use Rattle.records.specs.Records.{most_nodes}
 use Rattle.abstraction.specs.Abstraction.{successor, start, answer, graph}
-use Rattle.abstraction.specs.Faithful.{ReachableIn, literals_at, Leads, Earlier, FoundFirst, FoundBefore, Faithful, TooMany, Demand2}
+use Rattle.abstraction.specs.Faithful.{ReachableIn, literals_at, Leads, FoundFirst, FoundBefore, Faithful, TooMany, Demand2}
 use Rattle.abstraction.proofs.Order.{earlier-below, below-earlier}
 use Rattle.abstraction.proofs.Reached.{state_of, word_of, ReachIn, successor-back, start_back, and-literals, has_word, has-literals}
 

@@ -2,7 +2,7 @@
 use mathlib.Core.Path.{◌≡◌, refl, ap, ◌∙◌}
 use mathlib.Core.Bool.{Bool, ◌&&◌}
 use mathlib.Core.List.{List}
-use Prim.Native.Nat.{ℕ, ◌-◌, ◌≤◌}
+use Prim.Native.Nat.{ℕ, ◌≤◌}
 use lib.Dec.{leb}
 use lib.ListN.{length, drop}
 use lib.Seq.{sets as stores}
@@ -17,7 +17,6 @@ use Rattle.integers.proofs.Tests.{and-true}
 use Rattle.grammar.proofs.ReadingLaws.{one_out, times-codec}
 use Rattle.grammar.proofs.RowLaws.{row-codec}
 use Rattle.grammar.proofs.ActionLaws.{action_named, action_within}
-use Rattle.reader.specs.declared.Next.{Next}
 use Rattle.reader.specs.declared.Next.TheVariants.{At, Refused}
 use Rattle.reader.specs.declared.Rows.{Rows}
 use Rattle.reader.specs.Results.{rows_read, zero_rows}

@@ -14,7 +14,6 @@ use Rattle.grammar.specs.Reading.{Read, got, refused, one, always, after, pure}
 use Rattle.grammar.specs.Programs.{Assignment}
 use Rattle.grammar.specs.Grammar.{row, assignment, sets}
 use Rattle.grammar.proofs.ActionLaws.{set_allowed, assignment-out}
-use Rattle.reader.specs.declared.Next.{Next}
 use Rattle.reader.specs.declared.Next.TheVariants.{At, Refused}
 use Rattle.reader.specs.Results.{next_of}
 use Rattle.reader.proofs.RowsLoop.{answer-refused, answer_at, left_is, left-within}

@@ -25,7 +25,7 @@ use Rattle.programs.specs.Places.{places}
 use Rattle.programs.specs.declared.Loaded.{Loaded}
 use Rattle.programs.specs.declared.Status.TheVariants.{Ready, Failed}
 use Rattle.programs.proofs.Places.{item-at, stored_in, length-places}
-use Rattle.lemmas.specs.Lemmas.{Lemma, largest_of, accepted}
+use Rattle.lemmas.specs.Lemmas.{Lemma, largest_of}
 use Rattle.lemmas.specs.LemmaGrammar.{lemma, read_lemmas, encode_lemma, LemmaOk}
 use Rattle.lemmas.specs.Sources.{the_program, program_of, Held, listed, ListedAs}
 use Rattle.lemmas.specs.declared.Listed.{Listed}

@@ -8,7 +8,7 @@ use native.Mathlib.Nat.{add-zero}
 use lib.Dec.{eqb}
 use lib.IntN.{pos}
 use lib.ListN.{length, get_or, take, drop, length-append, length-drop}
-use lib.Seq.{sets, get_or-drop, drop-drop}
+use lib.Seq.{get_or-drop, drop-drop}
 use Rattle.words.specs.Words.{bits, payload, SETS}
 use Rattle.words.proofs.Laws.{payload-word}
 use Rattle.rows.specs.declared.Row.{Row}

@@ -1,5 +1,5 @@
 -- Nothing that a run does is missed: whatever combination a state of a run meets, and whichever variable an action runs off there, is due at some node.
-use mathlib.Core.Path.{◌≡◌, refl, sym, ap, ◌∙◌}
+use mathlib.Core.Path.{◌≡◌, refl, ◌∙◌}
 use mathlib.Core.Bool.{Bool, true, false, cond}
 use mathlib.Core.List.{List, [], ◌∷◌}
 use Prim.Native.Nat.{ℕ, suc, ◌<◌, ◌≤◌}
@@ -11,7 +11,6 @@ use borrow.Author.Tests.{ltb-true, ltb-false}
 use Rattle.integers.proofs.Tests.{le_le_z}
 use Rattle.words.specs.Words.{no_literals}
 use Rattle.words.specs.LiteralSets.{Literal, literals_in}
-use Rattle.words.specs.declared.Literals.{Literals}
 use Rattle.rows.specs.declared.Range.{Range}
 use Rattle.rows.specs.Rows.{zero_range}
 use Rattle.grammar.specs.Programs.{Program}

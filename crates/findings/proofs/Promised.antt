@@ -1,11 +1,11 @@
 -- What the answers and lists of Findings are worth, by the definitions: the sheet, demand 3, and how it agrees with Judge.
-use mathlib.Core.Path.{◌≡◌, refl, sym, ap, ◌∙◌}
+use mathlib.Core.Path.{◌≡◌, refl, ap, ◌∙◌}
 use mathlib.Core.Bool.{Bool, true, false, cond}
 use mathlib.Core.List.{List, [], ◌∷◌, ◌++◌, map}
-use Prim.Native.Nat.{ℕ, suc, ◌-◌, ◌<◌, ◌≤◌}
+use Prim.Native.Nat.{ℕ, suc, ◌-◌, ◌≤◌}
 use native.Mathlib.Omega.{arith}
 use lib.Dec.{ltb}
-use lib.ListN.{length, take, replicate, length-map}
+use lib.ListN.{length, replicate, length-map}
 use lib.Seq.{take_at}
 use borrow.Author.Tests.{ltb-true, le-ltb}
 use Rattle.words.specs.Refusals.{number}
@@ -29,7 +29,6 @@ use Rattle.judge.specs.declared.Judged.TheVariants.{Refused as NotJudged}
 use Rattle.judge.proofs.Promised.{Known, Worth, of-read, other, survey-worth, safe_if}
 use Rattle.findings.specs.Calls.{Listing, keep, list_all, list_survey, listing}
 use Rattle.findings.specs.Worth.{SheetOf, Begins, Agrees}
-use Rattle.findings.specs.declared.Listed.{Listed}
 use Rattle.findings.specs.declared.Listed.TheVariants.{All, Refused}
 use Rattle.findings.proofs.Listing.{graph-kept}
 

@@ -12,7 +12,7 @@
 -- nothing, end                                        — END, and nothing after it
 -- ranges                                              — 1 to 8 VAR
 -- program                                             — the whole
-use Rattle.std.specs.Prelude.{Bool, true, false, ◌&&◌, not, List, [], ◌∷◌, ◌++◌, ℕ, zero, suc, ◌-◌, ◌^◌, eqb, ltb, leb, ℤ, pos, negsuc, length, replicate}
+use Rattle.std.specs.Prelude.{Bool, true, false, ◌&&◌, not, List, [], ◌∷◌, ◌++◌, ℕ, zero, suc, ◌-◌, ◌^◌, eqb, ltb, leb, ℤ, pos, length, replicate}
 use Rattle.std.specs.Int.Bits.{bit_and}
 use Rattle.std.specs.Int.Signed.{le_z}
 use Rattle.words.specs.Words.{bits, payload, kind_of, signed, literals_of, VAR, ROW, TERM, INIT, PRED, ACTION, SET, SETS, END}

@@ -15,7 +15,7 @@ use Rattle.grammar.specs.Programs.{Program}
 use Rattle.grammar.specs.WellFormed.{WellFormed}
 use Rattle.lemmas.specs.Lemmas.{Lemma}
 use Rattle.formula.specs.Formula.{Monomial, False, And}
-use Rattle.search.specs.Search.{Answer, To, None, Origin, Root, From, Graph, count, links, node_word, origin, distance, edge}
+use Rattle.search.specs.Search.{Answer, To, None, Origin, Root, From, Graph, count, node_word, origin, distance, edge}
 use Rattle.records.specs.Records.{origin_word, distance_word, edge_word, most_nodes, graph_words, record_place, records_of}
 use Rattle.records.specs.Naming.{names, naming}
 use Rattle.records.proofs.Stores.{leads}

@@ -1,13 +1,13 @@
 -- The count of edges is the number of EDGE words that name a successor, in the records of a graph whose other words are none.
-use mathlib.Core.Path.{◌≡◌, refl, sym, ap, ◌∙◌}
+use mathlib.Core.Path.{◌≡◌, refl, ap, ◌∙◌}
 use mathlib.Core.Bool.{Bool, true, false, cond}
 use mathlib.Core.List.{List, [], ◌∷◌, ◌++◌}
 use Prim.Native.Nat.{ℕ, zero, suc, ◌+◌, ◌*◌, ◌<◌, ◌≤◌}
 use native.Mathlib.Omega.{arith}
 use native.Mathlib.Nat.{suc-mul, zero-mul}
-use lib.ListN.{length, take, get_or, replicate}
+use lib.ListN.{length, take, replicate}
 use lib.Seq.{take-suc, take_all}
-use Rattle.search.specs.Search.{Answer, To, None, Graph, count, links, links_in, node_word, origin, distance, edge}
+use Rattle.search.specs.Search.{None, Graph, count, links, links_in, node_word, origin, distance, edge}
 use Rattle.search.proofs.Count.{row_below}
 use Rattle.records.specs.Records.{origin_word, distance_word, edge_word, edge_row, node_record, records_of}
 use Rattle.records.specs.Naming.{names, naming}

@@ -17,7 +17,7 @@ use Rattle.integers.proofs.Tests.{le_z_true, and-true}
 use Rattle.rows.specs.declared.Row.{Row}
 use Rattle.rows.specs.declared.Range.{Range}
 use Rattle.rows.specs.Rows.{dot, row_value, zero_range}
-use Rattle.rows.specs.Bounds.{AllWithin, max_state, SmallRange, SmallRanges}
+use Rattle.rows.specs.Bounds.{max_state, SmallRange, SmallRanges}
 use Rattle.runs.specs.Runs.{on_range, lowest_off}
 
 -- ---- values on their ranges

@@ -3,7 +3,7 @@
 --     offs-are     the ends that no lemma shows, of the actions that have a successor
 --     found_at     both
 use mathlib.Core.Path.{◌≡◌, refl, sym, ap, ◌∙◌, subst}
-use mathlib.Core.Bool.{Bool, true, false, cond, not, ◌&&◌, ◌||◌}
+use mathlib.Core.Bool.{Bool, true, false, not, ◌&&◌}
 use mathlib.Core.Logic.{◌⊎◌, inl, inr, ⊎_elim}
 use mathlib.Core.List.{List, [], ◌∷◌, ◌++◌}
 use Prim.Native.Nat.{ℕ, zero, suc, ◌+◌, ◌*◌, ◌/◌, ◌%◌, ◌^◌, ◌<◌, ◌≤◌, min}
@@ -30,14 +30,14 @@ use Rattle.gather.specs.Gathering.{Entry, Table, low_end, high_end, place_of, kn
 use Rattle.search.specs.Search.{Graph, count, node_word}
 use Rattle.search.proofs.Count.{eq_or_ne}
 use Rattle.records.specs.Records.{record_place}
-use Rattle.abstraction.specs.Abstraction.{applies, successor}
+use Rattle.abstraction.specs.Abstraction.{applies}
 use Rattle.abstraction.specs.Faithful.{literals_at}
-use Rattle.verdict.specs.Verdicts.{Finding, RunOff, unless, forbids, ends, has_next, runs_off, findings_at}
+use Rattle.verdict.specs.Verdicts.{Finding, RunOff, unless, forbids, ends, runs_off, findings_at}
 use Rattle.verdict.specs.Working.{ends_of, Judging}
 use Rattle.verdict.proofs.Combinations.{contradicted-is}
 use Rattle.verdict.proofs.Ends.{rising-within, Asked, asked_is}
 use Rattle.verdict.proofs.Judging.{combinations-all, from_j, node_at}
-use Rattle.sheet.specs.Laying.{Laid, end_at, free, missed, offs}
+use Rattle.sheet.specs.Laying.{Laid, free, missed, offs}
 use Rattle.sheet.proofs.Laying.{laid_both}
 
 -- ---- the combinations

@@ -1,10 +1,10 @@
 -- The words in a show's bytes: those whose bytes they are, and the other way.
-use mathlib.Core.Path.{◌≡◌, ◌∙◌}
+use mathlib.Core.Path.{◌≡◌}
 use mathlib.Core.List.{List}
 use Prim.Native.Nat.{ℕ, ◌/◌, ◌%◌}
 use native.Mathlib.Omega.{arith}
 use lib.ListN.{length}
-use Rattle.little.specs.LittleEndian.{words_of, bytes_of, Below}
+use Rattle.little.specs.LittleEndian.{bytes_of, Below}
 use Rattle.little.proofs.Bytes.{length_bytes, words_of_bytes, bytes_of_words}
 use Rattle.show.specs.Show.{words_in}
 

@@ -6,16 +6,16 @@
 -- whole_stream — the law of whole streams: no failed call among the answers but passing ones, few of these, and a good end
 -- ends_soon — a stream that is still going has had no more answers than bytes and tries
 use mathlib.Core.Path.{◌≡◌, refl, sym, ap, ◌∙◌}
-use mathlib.Core.Bool.{Bool, true, false, cond}
-use mathlib.Core.List.{List, [], ◌∷◌, ◌++◌}
-use mathlib.Core.Logic.{◌⊎◌, inl, inr}
+use mathlib.Core.Bool.{Bool, true, false}
+use mathlib.Core.List.{List, [], ◌∷◌}
+use mathlib.Core.Logic.{inl, inr}
 use Prim.Native.Nat.{ℕ, suc, ◌+◌, ◌≤◌, ◌<◌}
 use native.Mathlib.Omega.{arith}
 use lib.Dec.{T, eqb, ltb}
 use lib.IntN.{ℤ}
 use lib.ListN.{length}
 use borrow.Author.Tests.{ltb-true, ltb-false, eqb-true, eqb-false}
-use Rattle.streams.specs.Streams.{most_tries, passing, at_nothing, after_moved, after_failed, next, streamed, sum_of, passed, Sound, Closes, EndsWell, WholeOf}
+use Rattle.streams.specs.Streams.{most_tries, passing, at_nothing, after_moved, after_failed, next, streamed, sum_of, passed, Sound, EndsWell, WholeOf}
 use Rattle.streams.specs.declared.Way.{Way}
 use Rattle.streams.specs.declared.Way.TheVariants.{Read, Write}
 use Rattle.streams.specs.declared.Answer.{Answer}

@@ -12,7 +12,7 @@
 -- Closes                    — the last answer moved no byte
 -- EndsWell                  — the room is full, or, of a read, the last answer moved no byte
 -- WholeOf                   — what the answers were, if a stream of so many bytes is whole
-use Rattle.std.specs.Prelude.{◌≡◌, Bool, true, false, ◌||◌, cond, List, [], ◌∷◌, ◌++◌, ◌⊎◌, ℕ, suc, ◌+◌, ◌≤◌, T, eqb, ltb, ℤ, pos, negsuc}
+use Rattle.std.specs.Prelude.{◌≡◌, Bool, false, ◌||◌, cond, List, [], ◌∷◌, ◌++◌, ◌⊎◌, ℕ, suc, ◌+◌, ◌≤◌, T, eqb, ltb, ℤ, pos, negsuc}
 use Rattle.streams.specs.declared.Way.{Way}
 use Rattle.streams.specs.declared.Way.TheVariants.{Read, Write}
 use Rattle.streams.specs.declared.Answer.{Answer}

@@ -11,7 +11,7 @@
 -- end_at, first_unshown        — what the place of a missing end says; what is found at node k of the actions from j on
 -- Judging                      — what the judge works on belongs to a program, a lemma list and their graph
 -- SetsFrom, Clean              — of the 64 nodes from node k on: their sets; a bit for some with nothing to find
-use Rattle.std.specs.Prelude.{◌≡◌, Bool, true, false, cond, List, [], ◌∷◌, ℕ, zero, suc, ◌+◌, ◌-◌, ◌/◌, ◌%◌, ◌<◌, ◌≤◌, eqb, ltb, length, get_or, replicate}
+use Rattle.std.specs.Prelude.{◌≡◌, Bool, true, false, cond, List, [], ◌∷◌, ℕ, zero, suc, ◌+◌, ◌/◌, ◌%◌, ◌<◌, ◌≤◌, eqb, ltb, length, get_or, replicate}
 use Rattle.std.proofs.lemmas.List.Edits.{sets}
 use Rattle.words.specs.Words.{payload, no_literals}
 use Rattle.words.specs.declared.Literals.{Literals}

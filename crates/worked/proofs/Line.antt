@@ -1,6 +1,6 @@
 -- Some input whose line begins with SAFE: the bytes of Fade and its lemmas.
-use mathlib.Core.Path.{◌≡◌, refl, ap, ◌∙◌}
-use mathlib.Core.List.{List, ◌++◌}
+use mathlib.Core.Path.{◌≡◌, refl, ap}
+use mathlib.Core.List.{◌++◌}
 use Prim.Native.Nat.{ℕ, ◌≤◌}
 use native.Mathlib.Omega.{arith}
 use lib.ListN.{length, length-replicate}
@@ -13,7 +13,7 @@ use Rattle.little.specs.LittleEndian.{words_of, bytes_of}
 use Rattle.show.specs.Show.{logic_length, words_in, logic_in, lemmas_in, of_bytes}
 use Rattle.report.specs.Report.{zeros, answer_lines, shown_lines, lines_of}
 use Rattle.worked.specs.Shows.{fade, fade_lemmas}
-use Rattle.worked.proofs.Table.{fade_records, left, worked}
+use Rattle.worked.proofs.Table.{worked}
 
 fade-words : words_in (bytes_of (fade ++ fade_lemmas)) ≡ fade ++ fade_lemmas
 unfolding words_of bytes_of

@@ -6,7 +6,7 @@ use Rattle.rows.specs.Rows.{dot}
 use Rattle.grammar.specs.Reading.{due, one, times, many}
 use Rattle.grammar.specs.Grammar.{program, ranges, rows, end, coefs, row, assignment, sets, action}
 use Rattle.runs.specs.declared.Stepped.TheVariants.{NotEnabled}
-use Rattle.runs.specs.Runs.{all_hold, lowest_off, new_value, values_from}
+use Rattle.runs.specs.Runs.{all_hold, lowest_off}
 use Rattle.runs.specs.Guards.{first_failing}
 use Rattle.runs.specs.Calls.{stay, step_call}
 use Rattle.rack.specs.Rack.{rack_call}

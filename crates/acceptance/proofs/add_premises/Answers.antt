@@ -1,6 +1,5 @@
 -- `acceptance::add_premises` meets its contract. The invariant: the literals of the predicates below p are added.
 use mathlib.Core.Path.{◌≡◌, refl}
-use Prim.Native.Nat.{◌-◌}
 use native.Mathlib.Omega.{arith}
 use borrow.Author.Rules.{rules}
 use lib.ListN.{length, get_or, take}

@@ -1,7 +1,7 @@
 use native.Mathlib.Omega.{arith}
 use mathlib.Core.Path.{◌∙◌}
 use mathlib.Core.Bool.{true}
-use Prim.Native.Nat.{◌+◌, ◌-◌, ◌<◌}
+use Prim.Native.Nat.{◌+◌, ◌<◌}
 use lib.ListN.{set}
 use Rattle.actions.proofs.SetsLoop.{SetsLoop, sets-begun, sets-refused, sets-turn, sets-ended, set-read-refused, set-read-at}
 use borrow.Author.Rules.{rules}

@@ -1,5 +1,4 @@
 use Prim.Native.Nat.{◌-◌, ◌≤◌}
-use lib.ListN.{set}
 use Rattle.actions.proofs.SetsLoop.{SetsLoop}
 use Rattle.actions.proofs.read_sets.Given as goal
 

@@ -1,7 +1,6 @@
 -- The first i words are copied.
 use native.Mathlib.Omega.{arith}
 use mathlib.Core.Path.{◌≡◌}
-use Prim.Native.Nat.{◌-◌}
 use Rattle.block.proofs.Meeting.{copied_next, columns-made}
 use Rattle.block.proofs.columns.Goals as goal
 

@@ -2,7 +2,6 @@
 use native.Mathlib.Omega.{arith}
 use mathlib.Core.Path.{◌≡◌, refl, ◌∙◌}
 use lib.ListN.{length-set}
-use Prim.Native.Nat.{◌-◌}
 use Rattle.block.proofs.Meeting.{member_below}
 use Rattle.block.proofs.Filling.{block_none, block-hit, block-miss}
 use Rattle.block.proofs.gather_block.Goals as goal
@@ -21,10 +20,10 @@ loop-i-preserved c =
     let l = c.loop-i in
     let a = c.args in
     elim c.if-key-lt1024.branch [
-      then-key-lt1024 w ↦
-        rw w.table-is (omega arith, length-set l.table _ _ ∙ l.invariant.1, λ nodes k. block-hit a.kept.now nodes a.premises.now a.keys.now l.i (l.invariant.2 nodes k) a.columns.now w.wide.result w.meet-q.result k w.if-key-lt1024.true w.wide.ensures w.meet-q.ensures)
+      | then-key-lt1024 w ↦
+          rw w.table-is (omega arith, length-set l.table _ _ ∙ l.invariant.1, λ nodes k. block-hit a.kept.now nodes a.premises.now a.keys.now l.i (l.invariant.2 nodes k) a.columns.now w.wide.result w.meet-q.result k w.if-key-lt1024.true w.wide.ensures w.meet-q.ensures)
       | else-key-lt1024 w ↦
-        rw w.table-is (omega arith, l.invariant.1, λ nodes k. block-miss a.kept.now nodes a.premises.now a.keys.now l.i (l.invariant.2 nodes k) w.if-key-lt1024.false)
+          rw w.table-is (omega arith, l.invariant.1, λ nodes k. block-miss a.kept.now nodes a.premises.now a.keys.now l.i (l.invariant.2 nodes k) w.if-key-lt1024.false)
     ]
 
 pub returns : goal.returns

@@ -1,7 +1,6 @@
 -- The first p places are written.
 use native.Mathlib.Omega.{arith}
 use mathlib.Core.Path.{◌≡◌}
-use Prim.Native.Nat.{◌-◌}
 use Rattle.block.proofs.Filling.{row-none, row_next}
 use Rattle.block.proofs.keep.Goals as goal
 

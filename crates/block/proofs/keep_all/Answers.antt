@@ -1,7 +1,6 @@
 -- The first a actions are written.
 use native.Mathlib.Omega.{arith}
 use mathlib.Core.Path.{◌≡◌, refl, ◌∙◌}
-use Prim.Native.Nat.{◌-◌}
 use Rattle.block.proofs.Filling.{rows_none, rows_next}
 use Rattle.block.proofs.keep_all.Goals as goal
 

@@ -1,5 +1,4 @@
 -- What is left to ask, `Left`; the set that is left falls.
-use Prim.Native.Nat.{◌-◌}
 use Rattle.block.proofs.Meeting.{Left}
 use Rattle.block.proofs.meet.Given as goal
 

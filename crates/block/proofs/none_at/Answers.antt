@@ -1,7 +1,7 @@
 -- The first p predicates are asked.
 use native.Mathlib.Omega.{arith}
 use mathlib.Core.Path.{◌≡◌}
-use Prim.Native.Nat.{◌*◌, ◌-◌}
+use Prim.Native.Nat.{◌*◌}
 use Rattle.block.proofs.Wording.{mixed_none, mixed_next, gone_made}
 use Rattle.block.proofs.none_at.Goals as goal
 

@@ -1,7 +1,7 @@
 -- The first p places of both actions are laid out.
 use native.Mathlib.Omega.{arith}
 use mathlib.Core.Path.{◌≡◌}
-use Prim.Native.Nat.{◌*◌, ◌-◌}
+use Prim.Native.Nat.{◌*◌}
 use Rattle.block.proofs.Wording.{laid_none, laid_next, words-made}
 use Rattle.block.proofs.words_of.Goals as goal
 

@@ -1,4 +1,3 @@
-
 use Rattle.feed.proofs.row_step.Goals as goal
 
 pub returns-then-kept-eq0 : goal.returns-then-kept-eq0

@@ -1,6 +1,5 @@
 -- The coefficients below v are zero where they are marked, or not. The measure is what is left of the eight.
 use mathlib.Core.Path.{◌≡◌, refl, ap, ◌∙◌}
-use Prim.Native.Nat.{◌-◌}
 use native.Mathlib.Omega.{arith}
 use lib.Dec.{eqb}
 use lib.IntN.{ℤ, nat_abs}
@@ -22,7 +21,7 @@ loop-v-preserved c =
     let coef = c.args.row.coef in (
       omega arith,
       elim c.if-set-v.branch [
-        then-set-v w ↦ rw w.clear-is (clear-also set coef c.loop-v.v c.loop-v.clear c.loop-v.invariant.1 w.if-set-v.true w.is_zero-clear.result (w.is_zero-clear.ensures ∙ ap (λ (z : ℤ). eqb (nat_abs z) 0) (to_z-of_z (within-fits w64 (omega arith) (c.requires.coefs c.loop-v.v)))))
+        | then-set-v w ↦ rw w.clear-is (clear-also set coef c.loop-v.v c.loop-v.clear c.loop-v.invariant.1 w.if-set-v.true w.is_zero-clear.result (w.is_zero-clear.ensures ∙ ap (λ (z : ℤ). eqb (nat_abs z) 0) (to_z-of_z (within-fits w64 (omega arith) (c.requires.coefs c.loop-v.v)))))
         | else-set-v w ↦ rw w.clear-is (clear-left set coef c.loop-v.v c.loop-v.clear c.loop-v.invariant.1 w.if-set-v.false)
       ],
     )

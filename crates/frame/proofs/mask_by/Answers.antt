@@ -1,15 +1,13 @@
 -- The mask has both literals of the untouched predicates below j. The measure is what is left of n.
 use mathlib.Core.Path.{◌≡◌, refl, sym, ◌∙◌}
 use mathlib.Core.Bool.{Bool}
-use Prim.Native.Nat.{ℕ, ◌+◌, ◌-◌}
+use Prim.Native.Nat.{ℕ, ◌+◌}
 use native.Mathlib.Omega.{arith}
 use lib.ListN.{get_or}
 use Rattle.rows.specs.Bounds.{no_row}
 use Rattle.frame.specs.Masks.{clear_below}
 use Rattle.sets.specs.Sets.{pairs_to}
 use Rattle.sets.proofs.Laws.{pair-more, pair_same}
-use Rattle.frame.proofs.is_clear.Reads as is-clear-reads
-use Rattle.frame.proofs.with_both.Reads as with-both-reads
 use Rattle.frame.proofs.mask_by.Goals as goal
 use Rattle.frame.proofs.mask_by.Goals.{then-is_clear, else-is_clear}
 
@@ -27,7 +25,7 @@ loop-j-preserved c =
     let is = c.is_clear.ensures in (
       omega arith,
       elim c.if-is_clear.branch [
-        then-is_clear w ↦ rw w.mask-is (pair-more (λ j. j) (λ j. 14 + j) clear c.loop-j.j c.loop-j.mask c.loop-j.invariant.1 (sym is ∙ w.if-is_clear.true) w.with_both-mask.result w.with_both-mask.ensures)
+        | then-is_clear w ↦ rw w.mask-is (pair-more (λ j. j) (λ j. 14 + j) clear c.loop-j.j c.loop-j.mask c.loop-j.invariant.1 (sym is ∙ w.if-is_clear.true) w.with_both-mask.result w.with_both-mask.ensures)
         | else-is_clear w ↦ rw w.mask-is (pair_same (λ j. j) (λ j. 14 + j) clear c.loop-j.j c.loop-j.mask c.loop-j.invariant.1 (sym is ∙ w.if-is_clear.false))
       ],
     )

@@ -2,8 +2,6 @@
 use mathlib.Core.Path.{◌≡◌}
 use Prim.Native.Nat.{◌≤◌, ◌-◌}
 use Rattle.frame.specs.Masks.{mask_by}
-use Rattle.frame.proofs.is_clear.Reads as is-clear-reads
-use Rattle.frame.proofs.with_both.Reads as with-both-reads
 use Rattle.frame.proofs.mask_by.Given as goal
 
 abbrev pub invariant-loop-j : goal.invariant-loop-j

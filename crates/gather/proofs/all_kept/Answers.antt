@@ -1,6 +1,5 @@
 -- What is kept stands at each place below a. The measure is what is left of the 16.
 use mathlib.Core.Path.{refl}
-use Prim.Native.Nat.{◌-◌}
 use native.Mathlib.Omega.{arith}
 use borrow.Author.Rules.{rules}
 use Rattle.integers.proofs.Fill.{filled_none, filled_next}

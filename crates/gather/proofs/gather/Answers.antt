@@ -1,5 +1,4 @@
 use mathlib.Core.Path.{◌≡◌, refl, sym, ◌∙◌}
-use Prim.Native.Nat.{◌-◌}
 use native.Mathlib.Omega.{arith}
 use Rattle.gather.specs.Gathering.{entries, gather_from}
 use Rattle.gather.proofs.Tables.{gather-next}

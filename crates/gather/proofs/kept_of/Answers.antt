@@ -1,4 +1,3 @@
-
 use Rattle.gather.proofs.kept_of.Goals as goal
 
 pub returns : goal.returns

@@ -2,9 +2,8 @@
 -- that there may be.
 use borrow.Author.Rules.{rules}
 use native.Mathlib.Omega.{arith}
-use Prim.Native.Nat.{◌-◌}
 use mathlib.Core.Path.{◌≡◌, refl, ◌∙◌}
-use mathlib.Core.Logic.{inl, inr, ⊎_elim}
+use mathlib.Core.Logic.{inl, inr}
 use lib.ListN.{length, get_or-replicate}
 use Rattle.gather.specs.Gathering.{entries}
 use Rattle.records.proofs.Places.{most}

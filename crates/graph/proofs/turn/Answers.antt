@@ -1,5 +1,4 @@
 -- The list holds the graph after the first j actions, `Going`, and the hints are as many as before. The measure is what is left of the actions.
-use Prim.Native.Nat.{◌-◌}
 use mathlib.Core.Path.{◌≡◌, refl, ◌∙◌}
 use native.Mathlib.Omega.{arith}
 use lib.ListN.{length}

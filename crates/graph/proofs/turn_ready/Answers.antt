@@ -1,7 +1,6 @@
 -- The list holds the graph after the first j actions, `Going`, and the hints are as many as before. The measure is what is left of the actions.
 use borrow.Author.Rules.{rules}
 use native.Mathlib.Omega.{arith}
-use Prim.Native.Nat.{◌-◌}
 use mathlib.Core.Path.{◌≡◌, refl, ◌∙◌}
 use lib.ListN.{length}
 use Rattle.gather.specs.Gathering.{entries}

@@ -1,4 +1,3 @@
-use Prim.Native.Nat.{◌-◌}
 use native.Mathlib.Omega.{arith}
 use Rattle.lemmas.proofs.HeadLaws.{counting-none, counting-next, counting-all}
 use Rattle.lemmas.proofs.count_literals.Goals as goal

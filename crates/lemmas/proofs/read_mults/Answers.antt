@@ -6,7 +6,7 @@ use Rattle.grammar.specs.Reading.{one}
 use Rattle.reader.specs.Results.{next_of}
 use Rattle.lemmas.proofs.LemmaLaws.{mult_allowed}
 use mathlib.Core.Path.{◌≡◌, ◌∙◌, sym}
-use Prim.Native.Nat.{◌-◌, ◌+◌, ◌<◌}
+use Prim.Native.Nat.{◌+◌, ◌<◌}
 use native.Mathlib.Omega.{arith}
 use Rattle.lemmas.proofs.ListLaws.{Mults, mults-begun, mults-stopped, mults-next, mults-ended}
 use Rattle.lemmas.proofs.read_mults.Goals as goal

@@ -1,5 +1,4 @@
 use mathlib.Core.Path.{◌≡◌}
-use Prim.Native.Nat.{◌-◌}
 use native.Mathlib.Omega.{arith}
 use Rattle.lemmas.specs.Sources.{shape_of}
 use Rattle.lemmas.proofs.SourceLaws.{no-shape, start-shape, shape_at, shapes-alike}

@@ -1,5 +1,4 @@
 use mathlib.Core.Path.{◌≡◌}
-use Prim.Native.Nat.{◌-◌}
 use native.Mathlib.Omega.{arith}
 use Rattle.lemmas.specs.Sources.{the_program, source_of}
 use Rattle.lemmas.proofs.SourceLaws.{sources_alike}

@@ -1,5 +1,4 @@
 -- The loop's invariant: the first k words are written, the rest is as it was. The measure is what is left of n.
-use Prim.Native.Nat.{◌-◌}
 use native.Mathlib.Omega.{arith}
 use mathlib.Core.Path.{◌≡◌}
 use lib.ListN.{length-set}

@@ -12,7 +12,6 @@ use Rattle.reader.specs.Results.{next_of}
 use Rattle.programs.proofs.Items.{no_range, some-ranges, ranges-ended, ranges-stopped, range-turned}
 use mathlib.Core.Path.{◌≡◌, refl, sym, ◌∙◌}
 use mathlib.Core.Bool.{true}
-use Prim.Native.Nat.{◌-◌}
 use native.Mathlib.Omega.{arith}
 use Rattle.words.specs.Words.{VAR}
 use Rattle.grammar.specs.Grammar.{range}

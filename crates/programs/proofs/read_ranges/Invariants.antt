@@ -1,4 +1,3 @@
-use Rattle.grammar.specs.Grammar.{ranges}
 use Prim.Native.Nat.{◌-◌}
 use Rattle.words.specs.Words.{VAR}
 use Rattle.grammar.specs.Grammar.{range}

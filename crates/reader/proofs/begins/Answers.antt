@@ -1,10 +1,6 @@
 use Rattle.reader.proofs.Laws.{begins-at, begins-past}
 use mathlib.Core.Path.{sym, ◌∙◌}
 use borrow.Author.Rules.{rules}
-use Rattle.reader.proofs.begins.Reads as reads
-use Rattle.reader.proofs.begins.Lts as lts
-use Rattle.words.proofs.Kind.is.Reads as is-reads
-use Rattle.words.proofs.Kind.of.Reads as of-reads
 use Rattle.reader.proofs.begins.Goals as goal
 
 pub returns-then-at-words : goal.returns-then-at-words

@@ -1,5 +1,4 @@
 use mathlib.Core.Path.{◌∙◌}
-use Prim.Native.Nat.{◌-◌}
 use Rattle.reader.proofs.RowsLoop.{rows-begun, rows-refused, rows-turn, rows-ended, row-read-refused, row-read-at}
 use borrow.Author.Rules.{rules}
 use Rattle.reader.proofs.read_rows.Goals as goal

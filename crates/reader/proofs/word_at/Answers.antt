@@ -1,6 +1,4 @@
 use Rattle.reader.proofs.Laws.{past_end}
-use Rattle.reader.proofs.word_at.Reads as reads
-use Rattle.reader.proofs.word_at.Lts as lts
 use Rattle.reader.proofs.word_at.Goals as goal
 
 pub returns-else-at-words : goal.returns-else-at-words

@@ -1,7 +1,6 @@
 -- The first i words are written.
 use native.Mathlib.Omega.{arith}
 use mathlib.Core.Path.{◌≡◌}
-use Prim.Native.Nat.{◌-◌}
 use Rattle.ready.proofs.Storing.{stored-none, stored_next}
 use Rattle.ready.proofs.store.Goals as goal
 

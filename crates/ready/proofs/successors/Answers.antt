@@ -1,7 +1,6 @@
 -- The first 2 * h actions are ready.
 use native.Mathlib.Omega.{arith}
 use mathlib.Core.Path.{◌≡◌, refl}
-use Prim.Native.Nat.{◌-◌}
 use Rattle.ready.proofs.Storing.{left-next, table-left, ready-next}
 use Rattle.ready.proofs.successors.Goals as goal
 

@@ -1,8 +1,6 @@
 -- Each of the three ways through is a law: known, full, fresh.
-use Prim.Native.Nat.{◌+◌, ◌<◌}
 use native.Mathlib.Omega.{arith}
 use lib.ListN.{length-set}
-use Rattle.records.specs.Records.{most_nodes}
 use Rattle.records.proofs.Stores.{known, full, fresh}
 use borrow.Author.Rules.{rules}
 use Rattle.records.proofs.enter.Goals as goal
@@ -30,5 +28,8 @@ store-requires c = (search rules, omega arith)
 
 pub returns : goal.returns
 returns c =
-    let a = c.args in record { turn = rw (c.store.ensures, c.edge_place-place.ensures.0, c.record_place-new.ensures.0)
-          (fresh a.graph.now a.actions a.nodes a.edges a.k a.j (omega arith) (omega arith) (omega arith) (omega arith) (omega arith) (omega arith) c.requires.7 a.w c.edge_word-2.result c.origin_word.result c.distance_at-parent.result c.find-at.result c.find-at.ensures.1 c.if-at-nodes.false (omega (arith, c.if-nodes-eq-NODES.false)) c.origin_word.ensures c.distance_at-parent.ensures.0 c.edge_word-2.ensures); hints = simp length-set (omega arith) }
+    let a = c.args in record {
+      turn = rw (c.store.ensures, c.edge_place-place.ensures.0, c.record_place-new.ensures.0)
+          (fresh a.graph.now a.actions a.nodes a.edges a.k a.j (omega arith) (omega arith) (omega arith) (omega arith) (omega arith) (omega arith) c.requires.7 a.w c.edge_word-2.result c.origin_word.result c.distance_at-parent.result c.find-at.result c.find-at.ensures.1 c.if-at-nodes.false (omega (arith, c.if-nodes-eq-NODES.false)) c.origin_word.ensures c.distance_at-parent.ensures.0 c.edge_word-2.ensures);
+      hints = simp length-set (omega arith);
+    }

@@ -1,4 +1,3 @@
-
 use Rattle.records.proofs.word_at.Goals as goal
 
 pub returns : goal.returns

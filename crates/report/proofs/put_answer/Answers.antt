@@ -5,7 +5,6 @@ use lib.ListN.{length, length-append}
 use Rattle.verdict.specs.Verdicts.{steps_in}
 use Rattle.lines.proofs.Puts.{then_put}
 use Rattle.report.specs.Report.{safe_line, forbid_line, run_off_line, refused_line, path_line, answer_lines}
-use borrow.Author.Rules.{rules}
 use Rattle.report.proofs.put_answer.Goals as goal
 
 pub put_line-requires : goal.put_line-requires

@@ -2,7 +2,6 @@ use mathlib.Core.Path.{◌≡◌}
 use native.Mathlib.Omega.{arith}
 use lib.ListN.{length}
 use Rattle.report.specs.Report.{end_text}
-use borrow.Author.Rules.{rules}
 use Rattle.report.proofs.put_end.Goals as goal
 
 pub put_bytes-requires : goal.put_bytes-requires

@@ -5,7 +5,6 @@ use Rattle.lines.specs.Text.{text}
 use Rattle.lines.proofs.Puts.{then_put}
 use Rattle.report.specs.Report.{step_text, path_line}
 use Rattle.report.proofs.Sizes.{length-path}
-use borrow.Author.Rules.{rules}
 use Rattle.report.proofs.put_path.Goals as goal
 
 pub put_bytes-next-requires : goal.put_bytes-next-requires

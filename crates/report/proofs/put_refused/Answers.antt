@@ -1,7 +1,6 @@
 use mathlib.Core.Path.{refl}
 use Rattle.lines.specs.Text.{text}
 use Rattle.lines.proofs.Puts.{line-fits}
-use borrow.Author.Rules.{rules}
 use Rattle.report.proofs.put_refused.Goals as goal
 
 pub put_line-requires : goal.put_line-requires

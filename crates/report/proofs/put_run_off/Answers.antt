@@ -5,7 +5,6 @@ use Rattle.lines.specs.Text.{text, field}
 use Rattle.lines.proofs.Puts.{then_put}
 use Rattle.report.specs.Report.{run_off_line}
 use Rattle.report.proofs.Sizes.{length-run-off}
-use borrow.Author.Rules.{rules}
 use Rattle.report.proofs.put_run_off.Goals as goal
 
 pub put_field-at-requires : goal.put_field-at-requires

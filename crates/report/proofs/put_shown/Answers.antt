@@ -1,6 +1,5 @@
 use Rattle.lines.proofs.Puts.{put-nothing}
 use Rattle.report.specs.Report.{shown_lines}
-use borrow.Author.Rules.{rules}
 use Rattle.report.proofs.put_shown.Goals as goal
 
 pub put_bytes-requires : goal.put_bytes-requires

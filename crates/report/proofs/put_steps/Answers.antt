@@ -1,10 +1,9 @@
 -- The actions written and those of the words ahead are all: `Stepping`. The measure is what is left of the path.
 use mathlib.Core.Path.{◌≡◌, sym, ◌∙◌, ap}
-use Prim.Native.Nat.{ℕ, ◌-◌}
+use Prim.Native.Nat.{ℕ}
 use native.Mathlib.Omega.{arith}
 use lib.Dec.{eqb}
 use lib.ListN.{get_or}
-use borrow.Author.Rules.{rules}
 use borrow.Author.Tests.{not-true, not-false}
 use Rattle.words.specs.Words.{kind_of, STEP}
 use Rattle.report.proofs.Steps.{none_yet, step_fits, one_more, stops, passed}

@@ -1,6 +1,5 @@
 -- `rows::corner` meets its contract. The invariant: the first i ends are written.
 use mathlib.Core.Path.{◌≡◌, refl, ◌∙◌}
-use Prim.Native.Nat.{◌-◌}
 use native.Mathlib.Omega.{arith}
 use borrow.Author.Rules.{rules}
 use lib.ListN.{length, get_or}
@@ -9,7 +8,7 @@ use mir.Syntax.{w64}
 use mir.Val.{SFits}
 use mir.Facts.{to_z-of_z}
 use Rattle.integers.proofs.Fill.{filled_none, filled_next, filled-all}
-use Rattle.rows.specs.Rows.{end_under, corner}
+use Rattle.rows.specs.Rows.{corner}
 use Rattle.rows.proofs.Laws.{get_d_ends, length-ends}
 use Rattle.rows.proofs.corner.Goals as goal
 

@@ -1,6 +1,5 @@
 -- `rows::products` meets its contract. The invariant: the sum is that of the products so far.
 use mathlib.Core.Path.{◌≡◌}
-use Prim.Native.Nat.{◌-◌}
 use native.Mathlib.Omega.{arith}
 use borrow.Author.Rules.{rules}
 use lib.ListN.{length, get_or}

@@ -1,6 +1,6 @@
 -- `rows::sum` meets its contract: each arm is reached exactly if the sum is off, or held, by 64 bits.
 use mathlib.Core.Path.{sym}
-use lib.IntN.{ℤ, pos, negsuc, ◌-ℤ◌}
+use lib.IntN.{pos, negsuc, ◌-ℤ◌}
 use lib.Signed.{◌<ℤ◌, ◌≤ℤ◌}
 use mir.Syntax.{w64}
 use mir.Val.{SFits}

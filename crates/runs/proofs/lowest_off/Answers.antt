@@ -5,7 +5,7 @@ use lib.IntN.{pos}
 use native.Mathlib.Nat.{zero-add}
 use Rattle.rows.specs.Rows.{zero_range}
 use mathlib.Core.Path.{◌≡◌, refl, sym, ◌∙◌}
-use Prim.Native.Nat.{◌-◌, ◌<◌}
+use Prim.Native.Nat.{◌<◌}
 use native.Mathlib.Omega.{arith}
 use lib.ListN.{length, take, get_or}
 use lib.Seq.{length-take-le, get_or-take}

@@ -1,4 +1,3 @@
-
 use Rattle.sets.proofs.is_opposed.Goals as goal
 
 pub returns : goal.returns

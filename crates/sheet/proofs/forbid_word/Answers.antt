@@ -1,4 +1,3 @@
-
 use Rattle.sheet.proofs.forbid_word.Goals as goal
 
 pub returns : goal.returns

@@ -17,9 +17,9 @@ clean-now : (c : Joined-k-eq0) → let a = c.args in
 clean-now c =
     let l = c.loop-k in
     elim c.if-k-eq0.branch [
-        then-k-eq0 w ↦ let at : l.k / 64 * 64 ≡ l.k = omega (arith, w.if-k-eq0.true) in rw (w.passed-is, at) w.clean-passed.ensures
-        | else-k-eq0 w ↦ rw w.passed-is (l.invariant.5 (omega (arith, w.if-k-eq0.false)))
-      ]
+      | then-k-eq0 w ↦ let at : l.k / 64 * 64 ≡ l.k = omega (arith, w.if-k-eq0.true) in rw (w.passed-is, at) w.clean-passed.ensures
+      | else-k-eq0 w ↦ rw w.passed-is (l.invariant.5 (omega (arith, w.if-k-eq0.false)))
+    ]
 
 pub loop-k-init : goal.loop-k-init
 loop-k-init c =
@@ -41,7 +41,7 @@ loop-k-preserved c =
       c.lay_in-at.auto.list ∙ l.invariant.2,
       λ p ls g J e. laid_on (findings_at p ls g l.k) _ (rw (findings-at p ls g a.nodes l.k (omega arith)) at (l.invariant.3 p ls g J e)) (c.lay_in-at.ensures.1 p ls g J (omega (arith, e)) (clean_at a.nodes c.if-k-eq0.passed l.k (clean-now (goal.at.loop-k-preserved c).Joined-k-eq0) (omega arith) J e)),
       elim c.if-k-eq0.branch [
-        then-k-eq0 w ↦ rw w.scratch-is (w.clean-passed.auto.scratch ∙ l.invariant.4)
+        | then-k-eq0 w ↦ rw w.scratch-is (w.clean-passed.auto.scratch ∙ l.invariant.4)
         | else-k-eq0 w ↦ rw w.scratch-is l.invariant.4
       ],
       λ h. let same : (l.k + 1) / 64 * 64 ≡ l.k / 64 * 64 = omega (arith, h) in rw same (clean-now (goal.at.loop-k-preserved c).Joined-k-eq0),

@@ -1,9 +1,8 @@
 -- What is left of the combinations from b on is left to be laid. The measure is what is left of n.
 use mathlib.Core.Path.{◌≡◌, sym, ◌∙◌}
-use Prim.Native.Nat.{◌+◌, ◌-◌}
+use Prim.Native.Nat.{◌+◌}
 use native.Mathlib.Omega.{arith}
 use borrow.Author.Rules.{rules}
-use borrow.Author.Tests.{not-true, not-false}
 use lib.ListN.{length, take, drop, get_or}
 use lib.Seq.{length-take-le, get_or-take}
 use Rattle.words.specs.Words.{no_literals}
@@ -29,9 +28,9 @@ loop-b-preserved c =
     let rest = free a.set a.k (b + 1) (drop (b + 1) cs) in
     let is = c.is_opposed.ensures in
     elim c.if-not-is_opposed.branch [
-        then-not-is_opposed w ↦ rw (w.list-is, w.at-is, w.put.ensures) (omega arith, (omega arith, put_one clash (Forbid a.k b) rest here (rw at_b (sym is ∙ w.if-not-is_opposed.true)) w.forbid_word.ensures))
-        | else-not-is_opposed w ↦ rw (w.list-is, w.at-is) (omega arith, (omega arith, passed clash (Forbid a.k b) rest here (rw at_b (sym is ∙ w.if-not-is_opposed.false))))
-      ]
+      | then-not-is_opposed w ↦ rw (w.list-is, w.at-is, w.put.ensures) (omega arith, (omega arith, put_one clash (Forbid a.k b) rest here (rw at_b (sym is ∙ w.if-not-is_opposed.true)) w.forbid_word.ensures))
+      | else-not-is_opposed w ↦ rw (w.list-is, w.at-is) (omega arith, (omega arith, passed clash (Forbid a.k b) rest here (rw at_b (sym is ∙ w.if-not-is_opposed.false))))
+    ]
 
 pub shape_of-list : goal.shape_of-list
 shape_of-list c = search (rules, left-length _ c.loop-b.invariant.1.1)

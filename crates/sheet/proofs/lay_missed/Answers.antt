@@ -21,10 +21,10 @@ loop-place-preserved c =
     let rest = missed a.missing a.k a.j (q + 1) (44 - (q + 1)) in
     let is = ap not c.has_place.ensures in
     elim c.if-has_place.branch [
-        then-has_place w ↦ rw (w.list-is, w.at-is, w.put.ensures)
-    (omega arith, (omega arith, (omega arith, put_one (not (has q a.missing)) (end_at a.k a.j q) rest here (sym is ∙ ap not w.if-has_place.true) w.run_off_word.ensures)))
-        | else-has_place w ↦ rw (w.list-is, w.at-is) (omega arith, (omega arith, (omega arith, passed (not (has q a.missing)) (end_at a.k a.j q) rest here (sym is ∙ ap not w.if-has_place.false))))
-      ]
+      | then-has_place w ↦ rw (w.list-is, w.at-is, w.put.ensures)
+          (omega arith, (omega arith, (omega arith, put_one (not (has q a.missing)) (end_at a.k a.j q) rest here (sym is ∙ ap not w.if-has_place.true) w.run_off_word.ensures)))
+      | else-has_place w ↦ rw (w.list-is, w.at-is) (omega arith, (omega arith, (omega arith, passed (not (has q a.missing)) (end_at a.k a.j q) rest here (sym is ∙ ap not w.if-has_place.false))))
+    ]
 
 pub shape_of-list : goal.shape_of-list
 shape_of-list c = search (rules, left-length _ c.loop-place.invariant.1.1.1)

@@ -24,11 +24,11 @@ loop-j-preserved c =
     let missing-here = missing (get_or a.asked j 0) (get_or a.shown j 0) in
     let is = c.has_successor.ensures in
     elim c.if-has_successor.branch [
-        then-has_successor w ↦ let found = missed missing-here a.k j 28 16 in
-    let all : Left _ _ _ _ _ (found ++ rest) = rw (here, sym is ∙ w.if-has_successor.true) at c.loop-j.invariant.1.1 in
-    rw (w.list-is, w.at-is) (omega arith, (omega (arith, w.lay_missed-at.ensures.0), laid_on found rest all (rw w.missing.ensures at w.lay_missed-at.ensures.1)))
-        | else-has_successor w ↦ rw (w.list-is, w.at-is) (omega arith, (omega arith, rw (here, sym is ∙ w.if-has_successor.false) at c.loop-j.invariant.1.1))
-      ]
+      | then-has_successor w ↦ let found = missed missing-here a.k j 28 16 in
+          let all : Left _ _ _ _ _ (found ++ rest) = rw (here, sym is ∙ w.if-has_successor.true) at c.loop-j.invariant.1.1 in
+          rw (w.list-is, w.at-is) (omega arith, (omega (arith, w.lay_missed-at.ensures.0), laid_on found rest all (rw w.missing.ensures at w.lay_missed-at.ensures.1)))
+      | else-has_successor w ↦ rw (w.list-is, w.at-is) (omega arith, (omega arith, rw (here, sym is ∙ w.if-has_successor.false) at c.loop-j.invariant.1.1))
+    ]
 
 pub shape_of-list : goal.shape_of-list
 shape_of-list c = search (rules, left-length _ c.loop-j.invariant.1.1)

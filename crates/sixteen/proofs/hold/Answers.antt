@@ -1,4 +1,4 @@
-use Rattle.std.proofs.Common.{◌≡◌, ◌-◌, map, length, get_or, pos, refl, ◌∙◌, arith, to_z-of_z, w64, SFits, rules}
+use Rattle.std.proofs.Common.{◌≡◌, map, length, get_or, pos, refl, ◌∙◌, arith, to_z-of_z, w64, SFits, rules}
 use lib.ListN.{length-map}
 use Rattle.integers.proofs.Fill.{filled_none, filled_next, filled-all, get_d_mapped}
 use Rattle.sixteen.specs.Sixteen.{cut}

@@ -1,5 +1,5 @@
 -- `sixteen::products` meets its contract. The invariant: the rest of the row, added to the sum so far, is the whole.
-use Rattle.std.proofs.Common.{◌≡◌, ℕ, ◌-◌, length, get_or, pos, sym, refl, ap, ◌∙◌, arith, to_z-of_z, w64, SFits, rules}
+use Rattle.std.proofs.Common.{◌≡◌, ℕ, length, get_or, pos, sym, refl, ap, ◌∙◌, arith, to_z-of_z, w64, SFits, rules}
 use Rattle.sixteen.specs.Sixteen.{cut, wrapped_sum, wrapped_product}
 use Rattle.sixteen.proofs.Laws.{dot-next, dot-end}
 use Rattle.sixteen.proofs.products.Goals as goal

@@ -1,6 +1,5 @@
 -- `sums::add_scaled` meets its contract. The invariant: the first i coefficients are written.
 use mathlib.Core.Path.{◌≡◌, refl, ◌∙◌}
-use Prim.Native.Nat.{◌-◌}
 use native.Mathlib.Omega.{arith}
 use borrow.Author.Rules.{rules}
 use lib.ListN.{length, get_or}

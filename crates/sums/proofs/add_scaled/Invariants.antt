@@ -1,7 +1,7 @@
 -- `sums::add_scaled` meets its contract. The invariant: the first i coefficients are written.
 use Prim.Native.Nat.{◌≤◌, ◌-◌}
 use lib.ListN.{get_or}
-use lib.IntN.{ℤ, pos, ◌+ℤ◌, ◌*ℤ◌}
+use lib.IntN.{pos, ◌+ℤ◌, ◌*ℤ◌}
 use Rattle.integers.proofs.Fill.{Filled}
 use Rattle.sums.proofs.add_scaled.Given as goal
 

@@ -1,6 +1,5 @@
 -- `sums::after` meets its contract. The invariant: the rows of the variables below v are added.
 use mathlib.Core.Path.{◌≡◌}
-use Prim.Native.Nat.{◌-◌}
 use native.Mathlib.Omega.{arith}
 use borrow.Author.Rules.{rules}
 use lib.IntN.{pos}

@@ -1,7 +1,6 @@
 -- The first j actions.
 use native.Mathlib.Omega.{arith}
 use mathlib.Core.Path.{◌≡◌}
-use Prim.Native.Nat.{◌-◌}
 use Rattle.suspects.proofs.Finding.{keeps-next}
 use Rattle.suspects.proofs.all_keep.Goals as goal
 

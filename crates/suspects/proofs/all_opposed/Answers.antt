@@ -1,7 +1,6 @@
 -- The first b combinations.
 use native.Mathlib.Omega.{arith}
 use mathlib.Core.Path.{◌≡◌}
-use Prim.Native.Nat.{◌-◌}
 use Rattle.suspects.proofs.Finding.{opposed-next}
 use Rattle.suspects.proofs.all_opposed.Goals as goal
 

@@ -1,5 +1,4 @@
 -- `Asking`; the set that is left falls.
-use Prim.Native.Nat.{◌-◌}
 use Rattle.suspects.proofs.Finding.{Asking}
 use Rattle.suspects.proofs.any_of.Given as goal
 

@@ -1,6 +1,6 @@
 use Rattle.words.specs.Words.{payload}
 use mathlib.Core.Path.{refl, ap, ◌∙◌}
-use Prim.Native.Nat.{◌-◌, ◌<◌}
+use Prim.Native.Nat.{◌<◌}
 use native.Mathlib.Omega.{arith}
 use lib.ListN.{length-set}
 use borrow.Author.Rules.{rules}
@@ -68,8 +68,7 @@ overflow_add-n c =
 
 pub loop-k-preserved : goal.loop-k-preserved
 loop-k-preserved c =
-    let fits : SFits w64 c.in-Value.z = search rules in
-    (
+    let fits : SFits w64 c.in-Value.z = search rules in (
       omega arith,
       length-set c.loop-k.premises c.loop-k.n _ ∙ c.loop-k.invariant.1,
       length-set c.loop-k.keys c.loop-k.n _ ∙ c.loop-k.invariant.2,

@@ -1,7 +1,6 @@
 -- The first k pairs are done. The measure is what is left of the 32.
 use native.Mathlib.Omega.{arith}
 use mathlib.Core.Path.{◌≡◌}
-use Prim.Native.Nat.{◌-◌}
 use Rattle.transpose.proofs.Stages.{staged_next}
 use Rattle.transpose.proofs.stage.Goals as goal
 

@@ -1,6 +1,5 @@
 -- What is in the table, with what is still to come, is the whole: `Tabling`. The measure is what is left of the actions.
 use mathlib.Core.Path.{ap, ◌∙◌}
-use Prim.Native.Nat.{◌-◌}
 use native.Mathlib.Omega.{arith}
 use Rattle.programs.specs.declared.Image.{Image}
 use Rattle.programs.specs.declared.Shape.{Shape}

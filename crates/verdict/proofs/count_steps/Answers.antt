@@ -1,5 +1,4 @@
 -- The steps taken and the steps left are all: `Counting`. The measure is what is left of the nodes.
-use Prim.Native.Nat.{◌-◌}
 use mathlib.Core.Path.{sym, ◌∙◌}
 use native.Mathlib.Omega.{arith}
 use Rattle.verdict.proofs.Traces.{counted-on, counted-root, counted-all}

@@ -1,8 +1,7 @@
 -- Nothing is found before node k; within a block `passed` speaks of its nodes. The measure is what is left of the nodes.
 use native.Mathlib.Omega.{arith}
 use mathlib.Core.Path.{◌≡◌, refl, ◌∙◌}
-use mathlib.Core.Logic.{⊎_elim}
-use Prim.Native.Nat.{◌+◌, ◌-◌, ◌*◌, ◌/◌}
+use Prim.Native.Nat.{◌+◌, ◌*◌, ◌/◌}
 use lib.ListN.{length}
 use Rattle.gather.specs.Gathering.{entries}
 use Rattle.verdict.specs.Working.{Clean}
@@ -17,18 +16,18 @@ clean-now : (c : Joined-k-eq0) → let a = c.args in
 clean-now c =
     let l = c.loop-k in
     elim c.if-k-eq0.branch [
-        then-k-eq0 w ↦ let at : l.k / 64 * 64 ≡ l.k = omega (arith, w.if-k-eq0.true) in rw (w.passed-is, at) w.clean-passed.ensures
-        | else-k-eq0 w ↦ rw w.passed-is (l.invariant.3 (omega (arith, w.if-k-eq0.false)))
-      ]
+      | then-k-eq0 w ↦ let at : l.k / 64 * 64 ≡ l.k = omega (arith, w.if-k-eq0.true) in rw (w.passed-is, at) w.clean-passed.ensures
+      | else-k-eq0 w ↦ rw w.passed-is (l.invariant.3 (omega (arith, w.if-k-eq0.false)))
+    ]
 
 -- the scratch is as long as before
 long-now : (c : Joined-k-eq0) → length c.if-k-eq0.scratch ≡ length c.args.scratch.now
 long-now c =
     let l = c.loop-k in
     elim c.if-k-eq0.branch [
-        then-k-eq0 w ↦ rw w.scratch-is (w.clean-passed.auto.scratch ∙ l.invariant.2)
-        | else-k-eq0 w ↦ rw w.scratch-is l.invariant.2
-      ]
+      | then-k-eq0 w ↦ rw w.scratch-is (w.clean-passed.auto.scratch ∙ l.invariant.2)
+      | else-k-eq0 w ↦ rw w.scratch-is l.invariant.2
+    ]
 
 pub loop-k-init : goal.loop-k-init
 loop-k-init c = (λ p ls g J e. before-first p ls g _ e, omega arith, refl, λ h. absurd (omega (arith, h)))

@@ -1,6 +1,5 @@
 -- Nothing is found of the actions before j. The measure is what is left of the actions.
 use mathlib.Core.Path.{refl, sym, ◌∙◌}
-use Prim.Native.Nat.{◌-◌}
 use native.Mathlib.Nat.{sub-zero}
 use native.Mathlib.Omega.{arith}
 use Rattle.verdict.proofs.Ends.{off-skip, off-kept, off-here, off-end}
@@ -21,7 +20,7 @@ loop-j-preserved c =
     let a = c.args in
     let is = c.has_successor.ensures in (
       elim c.if-has_successor.branch [
-        then-has_successor+else-place-lt64 w ↦ off-kept a.asked a.shown a.k a.actions c.loop-j.j c.loop-j.invariant.0 (omega arith) (sym is ∙ w.if-has_successor.true) w.first_missing-place.result w.first_missing-place.ensures w.if-place-lt64.false
+        | then-has_successor+else-place-lt64 w ↦ off-kept a.asked a.shown a.k a.actions c.loop-j.j c.loop-j.invariant.0 (omega arith) (sym is ∙ w.if-has_successor.true) w.first_missing-place.result w.first_missing-place.ensures w.if-place-lt64.false
         | else-has_successor w ↦ off-skip a.asked a.shown a.k a.actions c.loop-j.j c.loop-j.invariant.0 (omega arith) (sym is ∙ w.if-has_successor.false)
       ],
       omega arith,

@@ -1,4 +1,3 @@
-
 use Rattle.verdict.proofs.origin_at.Goals as goal
 
 pub returns : goal.returns

@@ -2,7 +2,6 @@
 use native.Mathlib.Omega.{arith}
 use mathlib.Core.Path.{◌≡◌, ap}
 use Rattle.words.specs.Words.{payload}
-use Prim.Native.Nat.{◌-◌}
 use Rattle.verdict.proofs.Passing.{sets-none, sets_more, sets_skip}
 use Rattle.verdict.proofs.sets_from.Goals as goal
 use Rattle.verdict.proofs.sets_from.Goals.{then-k-i, else-k-i}
@@ -14,9 +13,9 @@ pub loop-i-preserved : goal.loop-i-preserved
 loop-i-preserved c =
     let l = c.loop-i in
     elim c.if-k-i.branch [
-        then-k-i w ↦ rw w.w-is (omega arith, sets_more l.i l.invariant.1 (omega arith) _ (ap payload w.word_at.ensures))
-        | else-k-i w ↦ rw w.w-is (omega arith, sets_skip l.i l.invariant.1 w.if-k-i.false)
-      ]
+      | then-k-i w ↦ rw w.w-is (omega arith, sets_more l.i l.invariant.1 (omega arith) _ (ap payload w.word_at.ensures))
+      | else-k-i w ↦ rw w.w-is (omega arith, sets_skip l.i l.invariant.1 w.if-k-i.false)
+    ]
 
 pub returns : goal.returns
 returns c =
