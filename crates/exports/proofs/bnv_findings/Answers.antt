@@ -1,0 +1,11 @@
+use mathlib.Core.Path.{sym, ap, ◌∙◌}
+use Rattle.exports.specs.declared.BnvFindings.{BnvFindings}
+use Rattle.exports.specs.Numbers.{findings_of}
+use Rattle.exports.proofs.NumberLaws.{findings_nonzero, only_none}
+use Rattle.exports.proofs.bnv_findings.Goals as goal
+
+pub returns : goal.returns
+returns c =
+    let listed = c.findings in
+    let said = listed.ensures in
+    let is = c.findings_of.ensures in record { answer = is ∙ ap findings_of said.0; graph = said.1.0; findings = said.1.1.0; nonzero = rw is (findings_nonzero listed.result); demand3 = λ h e. said.1.1.1.1.0 (only_none listed.result (sym (ap (λ (r : BnvFindings). r.answer) is) ∙ h) (sym (ap (λ (r : BnvFindings). r.count) is) ∙ e)) }
