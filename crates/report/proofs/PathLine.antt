@@ -8,7 +8,7 @@ use borrow.Author.Tests.{ltb-true, ne_eqb}
 use lib.Dec.{eqb, ltb}
 use lib.ListN.{length}
 use Rattle.words.specs.Refusals.{number, value}
-use Rattle.grammar.specs.Reading.{Read, got}
+use Rattle.grammar.specs.Reading.{Read, refused, got}
 use Rattle.grammar.specs.Programs.{Program}
 use Rattle.programs.specs.Calls.{read}
 use Rattle.lemmas.specs.Lemmas.{Lemma}
@@ -88,10 +88,12 @@ no_lines js = no_path [] js refl
 -- ---- lines with one
 module _ (P Q : Program → List Lemma → Type 0) (on : (p : Program) (ls : List Lemma) → P p ls → Q p ls) where
   of-list : (p : Program) (m : Read (List Lemma)) → OfList (P p) m → OfList (Q p) m
+  of-list p (refused _) h = elim h [ ]
   of-list p (got ls us i) h = on p ls h
 
-  of_words : (m : Read Program) (lemmas : List ℕ) → OfRead P m lemmas → OfRead Q m lemmas
-  of_words (got p us i) lemmas h = of-list p (read_lemmas p lemmas) h
+  of_words_lem : (m : Read Program) (lemmas : List ℕ) → OfRead P m lemmas → OfRead Q m lemmas
+  of_words_lem (refused _) lemmas h = elim h [ ]
+  of_words_lem (got p us i) lemmas h = of-list p (read_lemmas p lemmas) h
 
 module _ (ws lemmas gl pl js : List ℕ) where
   abbrev LeastIn : ℕ → Program → List Lemma → Type 0
@@ -100,7 +102,7 @@ module _ (ws lemmas gl pl js : List ℕ) where
   ended : (front : List ℕ) → OfRead (Shortest gl pl) (read ws) lemmas → Ends (path_line js) (front ++ path_line (steps_in pl)) → OfRead (LeastIn (length js)) (read ws) lemmas
   ended front s h =
       let same : length (steps_in pl) ≡ length js = omega (arith, tally-ends js (front ++ path_line (steps_in pl)) h, tally_append 0 front (path_line (steps_in pl)), tally-path (tally 0 front) (steps_in pl)) in
-      rw (← same) (of_words (Shortest gl pl) (LeastIn (length (steps_in pl))) (λ p ls q. (q.0, q.1, q.2, q.4)) (read ws) lemmas s)
+      rw (← same) (of_words_lem (Shortest gl pl) (LeastIn (length (steps_in pl))) (λ p ls q. (q.0, q.1, q.2, q.4)) (read ws) lemmas s)
 
   answer-shortest : (a : Judged) → ShortestOf ws lemmas a gl pl → Ends (path_line js) (answer_lines a pl) → OfRead (LeastIn (length js)) (read ws) lemmas
   unfolding answer_lines tally more

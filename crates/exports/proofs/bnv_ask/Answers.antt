@@ -7,4 +7,4 @@ use Rattle.exports.proofs.bnv_ask.Goals as goal
 pub returns : goal.returns
 returns c =
     let asked = c.ask in
-    record { answer = c.ask_of.ensures ∙ ap ask_of asked.ensures.0; nonzero = rw c.ask_of.ensures (ask_nonzero asked.result); truth = λ h. asked.ensures.1 (only-accepted asked.result (sym (ap (λ (r : BnvAsk). r.answer) c.ask_of.ensures) ∙ h)) }
+    record { answer = c.ask_of.ensures ∙ ap ask_of asked.ensures.answer; nonzero = rw c.ask_of.ensures (ask_nonzero asked.result); truth = λ h. asked.ensures.truth (only-accepted asked.result (sym (ap (λ (r : BnvAsk). r.answer) c.ask_of.ensures) ∙ h)) }

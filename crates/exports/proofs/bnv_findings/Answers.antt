@@ -8,4 +8,4 @@ pub returns : goal.returns
 returns c =
     let listed = c.findings in
     let said = listed.ensures in
-    let is = c.findings_of.ensures in record { answer = is ∙ ap findings_of said.0; graph = said.1.0; findings = said.1.1.0; nonzero = rw is (findings_nonzero listed.result); demand3 = λ h e. said.1.1.1.1.0 (only_none listed.result (sym (ap (λ (r : BnvFindings). r.answer) is) ∙ h) (sym (ap (λ (r : BnvFindings). r.count) is) ∙ e)) }
+    let is = c.findings_of.ensures in record { answer = is ∙ ap findings_of said.answer; graph = said.graph; findings = said.list; nonzero = rw is (findings_nonzero listed.result); demand3 = λ h e. said.demand3 (only_none listed.result (sym (ap (λ (r : BnvFindings). r.answer) is) ∙ h) (sym (ap (λ (r : BnvFindings). r.count) is) ∙ e)) }

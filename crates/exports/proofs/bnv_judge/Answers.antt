@@ -8,4 +8,4 @@ pub returns : goal.returns
 returns c =
     let judged = c.judge in
     let said = judged.ensures in
-    record { answer = c.judge_of.ensures ∙ ap judge_of said.0; graph = said.1.0; path = said.1.1.0; nonzero = rw c.judge_of.ensures (judge_nonzero judged.result); demand3 = λ h. let (n, e, is) = only-safe judged.result (sym (ap (λ (r : BnvJudge). r.verdict) c.judge_of.ensures) ∙ h) in said.1.1.1.1.0 n e is }
+    record { answer = c.judge_of.ensures ∙ ap judge_of said.answer; graph = said.graph; path = said.path; nonzero = rw c.judge_of.ensures (judge_nonzero judged.result); demand3 = λ h. let (n, e, is) = only-safe judged.result (sym (ap (λ (r : BnvJudge). r.verdict) c.judge_of.ensures) ∙ h) in said.demand3 n e is }

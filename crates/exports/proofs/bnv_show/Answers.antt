@@ -9,4 +9,4 @@ returns c =
     let shown = c.show in
     let said = shown.ensures in
     let is = c.show_of.ensures in
-    record { answer = is ∙ ap show_of said.0; words = said.1.0 ∙ rw said.0; graph = said.1.1.0; path = said.1.1.1.0; safe = λ h. let (l, m, n, e, at) = only-safe-shown shown.result (sym (ap (λ (r : BnvShow). r.judged.verdict) is) ∙ h) in said.1.1.1.1 l m n e at; nonzero = rw is (show_nonzero shown.result) }
+    record { answer = is ∙ ap show_of said.answer; words = said.words ∙ rw said.answer; graph = said.graph; path = said.path; safe = λ h. let (l, m, n, e, at) = only-safe-shown shown.result (sym (ap (λ (r : BnvShow). r.judged.verdict) is) ∙ h) in said.safe l m n e at; nonzero = rw is (show_nonzero shown.result) }

@@ -1,7 +1,7 @@
 use mathlib.Core.Path.{◌≡◌, ap, ◌∙◌}
 use native.Mathlib.Omega.{arith}
 use lib.IntN.{ℤ}
-use mir.Syntax.{w64}
+use mir.Syntax.{w32, w64}
 use mir.Val.{to_z, of_z}
 use mir.Facts.{to_z-of_z, sfits_widen}
 use Rattle.exports.proofs.not_enabled.Goals as goal
@@ -9,7 +9,7 @@ use Rattle.exports.proofs.not_enabled.Goals.{Start}
 
 value-is : (c : Start) → to_z w64 (of_z w64 c.args.failing.value) ≡ c.args.failing.value
 value-is c =
-    to_z-of_z (sfits_widen tt c.requires.1)
+    to_z-of_z {w = w64} (sfits_widen {w = w32} {w' = w64} tt c.requires.1)
 
 pub overflow_cast-row : goal.overflow_cast-row
 overflow_cast-row c = let h = c.requires.0 in record { fits = omega arith }

@@ -8,66 +8,54 @@ use Rattle.report.specs.Report.{safe_line, forbid_line, run_off_line, refused_li
 use borrow.Author.Rules.{rules}
 use Rattle.report.proofs.put_answer.Goals as goal
 
--- ?? slice-aggregate-put-line : tie.Need-slice-aggregate-put-line
--- slice-aggregate-put-line c = search rules
-
--- ?? slice-aggregate-put-line-2 : tie.Need-slice-aggregate-put-line-2
--- slice-aggregate-put-line-2 c = search rules
-
 pub put_line-requires : goal.put_line-requires
 unfolding answer_lines
 put_line-requires c =
-    let v = c.answer-1.given in
-    let room : length (safe_line v.0.0 v.0.1.0) ≤ length c.args.out.now = rw v.1 at c.requires in
+    let v = c.in-Safe in
+    let room : length (safe_line v.nodes v.edges) ≤ length c.args.out.now = rw v.is at c.requires in
     omega arith
-
--- ?? slice-aggregate-put-line-3 : tie.Need-slice-aggregate-put-line-3
--- slice-aggregate-put-line-3 c = search rules
-
--- ?? slice-aggregate-put-line-4 : tie.Need-slice-aggregate-put-line-4
--- slice-aggregate-put-line-4 c = search rules
 
 pub put_line-at-requires : goal.put_line-at-requires
 unfolding answer_lines
 put_line-at-requires c =
-    let v = c.answer-in-MayForbid-1.given in
-    let first = forbid_line v.0.0 v.0.1.0 in
+    let v = c.in-MayForbid in
+    let first = forbid_line v.node v.bad in
     let last = path_line (steps_in c.args.path.now) in
-    let room : length (first ++ last) ≤ length c.args.out.now = rw v.1 at c.requires in
+    let room : length (first ++ last) ≤ length c.args.out.now = rw v.is at c.requires in
     omega (arith, length-append first last)
 
 pub put_path-requires : goal.put_path-requires
 unfolding answer_lines
 put_path-requires c =
-    let v = c.answer-in-MayForbid-1.given in
-    let first = forbid_line v.0.0 v.0.1.0 in
+    let v = c.in-MayForbid in
+    let first = forbid_line v.node v.bad in
     let last = path_line (steps_in c.args.path.now) in
-    let room : length (first ++ last) ≤ length c.args.out.now = rw v.1 at c.requires in
+    let room : length (first ++ last) ≤ length c.args.out.now = rw v.is at c.requires in
     omega (arith, length-append first last, c.put_line-at.ensures.ends)
 
 pub put_run_off-at-requires : goal.put_run_off-at-requires
 unfolding answer_lines
 put_run_off-at-requires c =
-    let v = c.answer-in-MayRunOff-1.given in
-    let first = run_off_line v.0.0 v.0.1.0 v.0.1.1.0 v.0.1.1.1.0 in
+    let v = c.in-MayRunOff in
+    let first = run_off_line v.node v.action v.variable v.high in
     let last = path_line (steps_in c.args.path.now) in
-    let room : length (first ++ last) ≤ length c.args.out.now = rw v.1 at c.requires in
+    let room : length (first ++ last) ≤ length c.args.out.now = rw v.is at c.requires in
     omega (arith, length-append first last)
 
 pub put_path-requires-in-MayRunOff : goal.put_path-requires-in-MayRunOff
 unfolding answer_lines
 put_path-requires-in-MayRunOff c =
-    let v = c.answer-in-MayRunOff-1.given in
-    let first = run_off_line v.0.0 v.0.1.0 v.0.1.1.0 v.0.1.1.1.0 in
+    let v = c.in-MayRunOff in
+    let first = run_off_line v.node v.action v.variable v.high in
     let last = path_line (steps_in c.args.path.now) in
-    let room : length (first ++ last) ≤ length c.args.out.now = rw v.1 at c.requires in
+    let room : length (first ++ last) ≤ length c.args.out.now = rw v.is at c.requires in
     omega (arith, length-append first last, c.put_run_off-at.ensures.ends)
 
 pub put_refused-requires : goal.put_refused-requires
 unfolding answer_lines
 put_refused-requires c =
-    let v = c.answer-in-Refused-1.given in
-    let room : length (refused_line v.0.0) ≤ length c.args.out.now = rw v.1 at c.requires in
+    let v = c.in-Refused in
+    let room : length (refused_line v.why) ≤ length c.args.out.now = rw v.is at c.requires in
     omega arith
 
 pub returns-in-Safe : goal.returns-in-Safe
@@ -77,20 +65,20 @@ returns-in-Safe c = rw c.in-Safe.is c.put_line.ensures
 pub returns-in-MayForbid : goal.returns-in-MayForbid
 unfolding answer_lines
 returns-in-MayForbid c =
-    let v = c.answer-in-MayForbid-1.given in
-    let first = forbid_line v.0.0 v.0.1.0 in
+    let v = c.in-MayForbid in
+    let first = forbid_line v.node v.bad in
     let last = path_line (steps_in c.args.path.now) in
-    let room : length (first ++ last) ≤ length c.args.out.now = rw v.1 at c.requires in
-    rw v.1 (then_put {a = first} c.put_line-at.ensures c.put_path.ensures (omega (arith, length-append first last)))
+    let room : length (first ++ last) ≤ length c.args.out.now = rw v.is at c.requires in
+    rw v.is (then_put {a = first} c.put_line-at.ensures c.put_path.ensures (omega (arith, length-append first last)))
 
 pub returns-in-MayRunOff : goal.returns-in-MayRunOff
 unfolding answer_lines
 returns-in-MayRunOff c =
-    let v = c.answer-in-MayRunOff-1.given in
-    let first = run_off_line v.0.0 v.0.1.0 v.0.1.1.0 v.0.1.1.1.0 in
+    let v = c.in-MayRunOff in
+    let first = run_off_line v.node v.action v.variable v.high in
     let last = path_line (steps_in c.args.path.now) in
-    let room : length (first ++ last) ≤ length c.args.out.now = rw v.1 at c.requires in
-    rw v.1 (then_put {a = first} c.put_run_off-at.ensures c.put_path-in-MayRunOff.ensures (omega (arith, length-append first last)))
+    let room : length (first ++ last) ≤ length c.args.out.now = rw v.is at c.requires in
+    rw v.is (then_put {a = first} c.put_run_off-at.ensures c.put_path-in-MayRunOff.ensures (omega (arith, length-append first last)))
 
 pub returns-in-Refused : goal.returns-in-Refused
 unfolding answer_lines

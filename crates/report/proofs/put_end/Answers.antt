@@ -5,16 +5,10 @@ use Rattle.report.specs.Report.{end_text}
 use borrow.Author.Rules.{rules}
 use Rattle.report.proofs.put_end.Goals as goal
 
--- ?? slice-aggregate-put-bytes : tie.Need-slice-aggregate-put-bytes
--- slice-aggregate-put-bytes c = search rules
-
 pub put_bytes-requires : goal.put_bytes-requires
 put_bytes-requires c =
     let up : length (end_text c.args.high) ≡ 6 = rw c.if-high.true in
     omega arith
-
--- ?? slice-aggregate-put-bytes-2 : tie.Need-slice-aggregate-put-bytes-2
--- slice-aggregate-put-bytes-2 c = search rules
 
 pub put_bytes-requires-else-high : goal.put_bytes-requires-else-high
 put_bytes-requires-else-high c =

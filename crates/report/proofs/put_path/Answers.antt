@@ -8,9 +8,6 @@ use Rattle.report.proofs.Sizes.{length-path}
 use borrow.Author.Rules.{rules}
 use Rattle.report.proofs.put_path.Goals as goal
 
--- ?? slice-aggregate-put-bytes : tie.Need-slice-aggregate-put-bytes
--- slice-aggregate-put-bytes c = search rules
-
 pub put_bytes-next-requires : goal.put_bytes-next-requires
 put_bytes-next-requires c =
     let a = c.args in
@@ -20,9 +17,6 @@ pub put_steps-last-requires : goal.put_steps-last-requires
 put_steps-last-requires c =
     let a = c.args in
     omega (arith, length-path (steps_in a.path.now), c.put_bytes-next.ensures.ends)
-
--- ?? slice-aggregate-put-bytes-2 : tie.Need-slice-aggregate-put-bytes-2
--- slice-aggregate-put-bytes-2 c = search rules
 
 pub put_bytes-requires : goal.put_bytes-requires
 put_bytes-requires c =

@@ -4,12 +4,6 @@ use Rattle.lines.proofs.Puts.{line-fits}
 use borrow.Author.Rules.{rules}
 use Rattle.report.proofs.put_refused.Goals as goal
 
--- ?? slice-aggregate-put-line : tie.Need-slice-aggregate-put-line
--- slice-aggregate-put-line c = search rules
-
--- ?? slice-aggregate-put-line-2 : tie.Need-slice-aggregate-put-line-2
--- slice-aggregate-put-line-2 c = search rules
-
 pub put_line-requires : goal.put_line-requires
 put_line-requires c =
     rw (c.number_of-number.ensures, c.value_of-value.ensures)

@@ -8,24 +8,15 @@ use Rattle.report.proofs.Sizes.{length-run-off}
 use borrow.Author.Rules.{rules}
 use Rattle.report.proofs.put_run_off.Goals as goal
 
--- ?? slice-aggregate-put-field : tie.Need-slice-aggregate-put-field
--- slice-aggregate-put-field c = search rules
-
 pub put_field-at-requires : goal.put_field-at-requires
 put_field-at-requires c =
     let a = c.args in
     omega (arith, length-run-off a.node a.action a.variable a.high)
 
--- ?? slice-aggregate-put-field-2 : tie.Need-slice-aggregate-put-field-2
--- slice-aggregate-put-field-2 c = search rules
-
 pub put_field-next-requires : goal.put_field-next-requires
 put_field-next-requires c =
     let a = c.args in
     omega (arith, length-run-off a.node a.action a.variable a.high, c.put_field-at.ensures.ends)
-
--- ?? slice-aggregate-put-field-3 : tie.Need-slice-aggregate-put-field-3
--- slice-aggregate-put-field-3 c = search rules
 
 pub put_field-last-requires : goal.put_field-last-requires
 put_field-last-requires c =

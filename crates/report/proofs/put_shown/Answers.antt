@@ -3,15 +3,9 @@ use Rattle.report.specs.Report.{shown_lines}
 use borrow.Author.Rules.{rules}
 use Rattle.report.proofs.put_shown.Goals as goal
 
--- ?? slice-aggregate-put-bytes : tie.Need-slice-aggregate-put-bytes
--- slice-aggregate-put-bytes c = search rules
-
 pub put_bytes-requires : goal.put_bytes-requires
 unfolding shown_lines
 put_bytes-requires c = rw c.in-TooLong.is at c.requires
-
--- ?? slice-aggregate-put-bytes-2 : tie.Need-slice-aggregate-put-bytes-2
--- slice-aggregate-put-bytes-2 c = search rules
 
 pub put_bytes-requires-in-OddBytes : goal.put_bytes-requires-in-OddBytes
 unfolding shown_lines

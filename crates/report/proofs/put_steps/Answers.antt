@@ -26,9 +26,6 @@ returns-then-not-is c =
     let a = c.args in
     stops a.out.now a.at a.path.now l.out l.place l.i l.invariant c.requires (omega arith) (tested (goal.at.returns-then-not-is c).After-is ∙ not-true _ c.if-not-is.true-raw)
 
--- ?? slice-aggregate-put-field : tie.Need-slice-aggregate-put-field invariant-loop decreases-loop
--- slice-aggregate-put-field c = search rules
-
 pub put_field-place-requires : goal.put_field-place-requires
 put_field-place-requires c =
     let tested' : (eqb (kind_of (get_or c.args.path.now c.loop-i.i 0)) STEP ≡ c.is.result) = (sym (c.is.ensures ∙ ap (λ (k : ℕ). eqb k STEP) c.of.ensures)) in

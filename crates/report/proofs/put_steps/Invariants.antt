@@ -5,7 +5,7 @@ use Rattle.report.proofs.Steps.{Stepping}
 use Rattle.report.proofs.put_steps.Given as goal
 
 abbrev pub invariant-loop-i : goal.invariant-loop-i
-invariant-loop-i l = Stepping out₀ at path out place i
+invariant-loop-i l = Stepping l.initial.out l.at l.path l.out l.place l.i
 
 abbrev pub decreases-loop-i : goal.decreases-loop-i
-decreases-loop-i l = length path - i
+decreases-loop-i l = length l.path - l.i

@@ -19,7 +19,7 @@ lines_are c =
     let g = c.graph_list-graph in
     let p = c.path_list-path in
     let s = c.show-shown in
-    with_fresh c.args.input.now w.result g.result p.result s.result s.new.1.1.1.0 (omega (arith, w.ensures)) g.ensures.1 p.ensures.1 s.ensures.0 s.ensures.1.1.1.0
+    with_fresh c.args.input.now w.result g.result p.result s.result s.new.path (omega (arith, w.ensures)) g.ensures.1 p.ensures.1 s.ensures.answer s.ensures.path
 
 pub put_shown-requires : goal.put_shown-requires
 put_shown-requires c = omega (arith, ap length (lines_are (goal.at.put_shown-requires c).After-show-shown), lines_room_lem c.args.input.now)
