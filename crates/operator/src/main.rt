@@ -4,7 +4,7 @@
 #![tactic(auto)]
 
 ghost use Rattle.std.specs.Prelude.{◌≡◌, length};
-ghost use Rattle.operator.specs.Program.{HasRoom, lines_after, Leads};
+ghost use Rattle.operator.specs.Program.{told, HasRoom, AllCame, lines_after, Leads, WentOut};
 
 use std::io::{ErrorKind, Read, Write};
 use std::process::ExitCode;
@@ -38,7 +38,9 @@ fn pause(clock: &impl Clock, wanted: bool) {
 }
 
 // What a call answered: the bytes that it moved, or the error's number.
-fn answer(got: io::Result<usize>) -> Answer {
+fn answer(got: io::Result<usize>) -> Answer
+    ensures { result ≡ told got }
+{
     match got {
         Ok(n) => Answer::Moved(n),
         Err(error) => streams::answered(-1, error.raw_os_error().unwrap_or(0)),
@@ -74,7 +76,8 @@ fn read_whole<R: Read>(
     input: &mut R,
     bytes: &mut [u8],
 ) -> Progress
-    ensures { HasRoom result (length bytes.new) }
+    ensures room { HasRoom result (length bytes.new) }
+    ensures came { AllCame result (R.remaining input.old) (R.remaining input.new) bytes.new }
 {
     let room = bytes.len();
     let mut done: usize = 0;
@@ -126,25 +129,25 @@ fn tell_unwritten(rt: &(impl Eprint + Alloc), got: io::Result<usize>, done: usiz
     }
 }
 
-// With what the program ends where a write gave this: where nobody reads the output, with what a shell says of a program that SIGPIPE ended.
-fn status(got: io::Result<usize>) -> u8 {
+// Why the lines could not be written.
+fn unwritten(got: io::Result<usize>) -> io::Error {
     match got {
-        Ok(_) => 0,
-        Err(error) => {
-            if matches!(error.kind(), ErrorKind::BrokenPipe) {
-                141
-            } else {
-                0
-            }
-        }
+        Ok(_) => io::Error::new(ErrorKind::WriteZero, "it takes no byte"),
+        Err(error) => error,
     }
 }
 
-// Writes the lines to the output, if there are any. Where that fails, it says why. Answers the status to end with.
-fn write_whole<W: Write>(rt: &(impl Clock + Eprint + Alloc), output: &mut W, lines: &[u8]) -> u8 {
+// Writes the lines to the output, if there are any. Where that fails, it says why.
+fn write_whole<W: Write>(
+    rt: &(impl Clock + Eprint + Alloc),
+    output: &mut W,
+    lines: &[u8],
+) -> io::Result<()>
+    ensures { WentOut result (W.contents output.old) (W.contents output.new) lines.now }
+{
     let room = lines.len();
     if room == 0 {
-        return 0;
+        return Ok(());
     }
     let mut done: usize = 0;
     let mut tries: usize = 0;
@@ -156,10 +159,24 @@ fn write_whole<W: Write>(rt: &(impl Clock + Eprint + Alloc), output: &mut W, lin
                 done = more;
                 tries = again;
             }
-            Progress::Whole(_) => return 0,
+            Progress::Whole(_) => return Ok(()),
             Progress::Broken => {
                 tell_unwritten(rt, got, done);
-                return status(got);
+                return Err(unwritten(got));
+            }
+        }
+    }
+}
+
+// With what the program ends: where nobody reads its output, with what a shell says of a program that SIGPIPE ended, and else with 0.
+fn status(ended: io::Result<()>) -> u8 {
+    match ended {
+        Ok(()) => 0,
+        Err(error) => {
+            if matches!(error.kind(), ErrorKind::BrokenPipe) {
+                141
+            } else {
+                0
             }
         }
     }
@@ -170,5 +187,5 @@ fn main(rt: HostRuntime) -> ExitCode {
     let end = read_whole(&rt, &mut rt.stdin(), &mut bytes);
     let mut lines = lines_room();
     let m = put_lines(end, &bytes, &mut lines);
-    ExitCode::from(write_whole(&rt, &mut rt.stdout(), &lines[..m]))
+    ExitCode::from(status(write_whole(&rt, &mut rt.stdout(), &lines[..m])))
 }
