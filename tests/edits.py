@@ -31,8 +31,11 @@ NAME = re.compile(r"`(\w*_\w*)`(?: \(([\w, ]+)\))?")
 
 
 def function_at(crate, file, line):
-    """The function that begins at a line of a source file; an edit moves no line."""
-    for text in (ROOT / "crates" / crate / file).read_text().splitlines()[int(line) - 1:]:
+    """The function at a line of a source file: the one that begins there, behind its attributes, or else the last one before. An edit moves no line."""
+    texts, at = (ROOT / "crates" / crate / file).read_text().splitlines(), int(line) - 1
+    while at < len(texts) and texts[at].startswith(("#", "//")):
+        at += 1
+    for text in reversed(texts[:at + 1]):
         found = re.search(r"\bfn (\w+)", text)
         if found:
             return found[1]
