@@ -6,7 +6,8 @@
     tests/edits.py --claims             only docs/CLAIMS.md
 
 Prints each edit with the function and the goal of the first error. An edit that is refused only because a proof file names what it took away made the
-proof unfit for the code, and says nothing of the contract; one that never reached the prover is no program; and a limit of the prover is no fact.
+proof unfit for the code, and says nothing of the contract; so does one that gave a goal another name, under which no proof was found, unless values are
+found that make it false. One that never reached the prover is no program; and a limit of the prover is no fact.
 
 In docs/CLAIMS.md an edit is a name with an underscore, in backticks, behind the word "edit" or "edits" in the same cell and sentence. The crates
 in parentheses right behind it have to have it, or else any crate. Prints each that does not exist.
@@ -23,7 +24,9 @@ REFUSED = "refused, as it must be"
 # Of a proof file, and of a function; the text may be cut off.
 ERROR = re.compile(r"(?:\./)?proofs/(?:(\S+)/)?\w+\.antt:\d+:\d+: error: (?:`([^`]*)`: )?(.*)")
 NOTE = re.compile(r"note: (src/\S+?\.rt):(\d+):\d+: (it is not proved .*)")
-GOAL = re.compile(r"\(`([^`]*)")
+# The goal of a note, and what is said of it: that values make it false, or only that no proof was found.
+GOAL = re.compile(r"\(`([^`]*)`?\)?(.*)")
+FALSE = "; the facts known there allow values at which"
 MISSING = re.compile(r"that can be named from here|is not in scope|has no field|has no `|is no library|was not admitted")
 
 NAMED = re.compile(r"\bedits? ([^|;.\n]*)")
@@ -31,8 +34,11 @@ NAME = re.compile(r"`(\w*_\w*)`(?: \(([\w, ]+)\))?")
 
 
 def function_at(crate, file, line):
-    """The function that begins at a line of a source file; an edit moves no line."""
-    for text in (ROOT / "crates" / crate / file).read_text().splitlines()[int(line) - 1:]:
+    """The function at a line of a source file: the one that begins there, behind its attributes, or else the last one before. An edit moves no line."""
+    texts, at = (ROOT / "crates" / crate / file).read_text().splitlines(), int(line) - 1
+    while at < len(texts) and texts[at].startswith(("#", "//")):
+        at += 1
+    for text in reversed(texts[:at + 1]):
         found = re.search(r"\bfn (\w+)", text)
         if found:
             return found[1]
@@ -40,14 +46,15 @@ def function_at(crate, file, line):
 
 
 def found_in(crate, text):
-    """The function, the goal and the text of an error; None where it is no error of a proof."""
+    """The function, the goal and the text of an error; None where it is no error of a proof that is there, nor a goal that values make false."""
     error, note = ERROR.match(text), NOTE.match(text)
     if error:
         return error.groups()
-    if not note:
+    goal = note and GOAL.search(note[3])
+    # (rt cuts the line off)
+    if not goal or not goal[2].startswith(FALSE[:6]) or not FALSE.startswith(goal[2][:len(FALSE)]):
         return None
-    goal = GOAL.search(note[3])
-    return function_at(crate, note[1], note[2]), goal and goal[1], note[3]
+    return function_at(crate, note[1], note[2]), goal[1], note[3]
 
 
 def judged(edit, said):
@@ -63,7 +70,7 @@ def judged(edit, said):
         return f"{crate}/{label}: NO FACT: {why}", False
     found = found_in(crate, why.removeprefix(": "))
     if not found:
-        return f"{crate}/{label}: NO PROGRAM: no error of a proof comes first: {why}", False
+        return f"{crate}/{label}: NO FACT: no error of a proof comes first, and no goal that values make false: {why}", False
     function, goal, text = found
     if MISSING.search(text):
         return f"{crate}/{label}: A NAME IS MISSING: {function}, {goal}: {text}", False
