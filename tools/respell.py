@@ -62,7 +62,9 @@ def small_lists(text):
     text = re.sub(r"(Rattle\.rows\.specs\.Bounds\.\{[^}]*?)\bsmall\b(?!-)", r"\1AllWithin", text)
     text = text.replace("abbrev pub small :", "abbrev pub AllWithin :").replace("\nsmall B s =", "\nAllWithin B s =").replace("-- small  ", "-- AllWithin  ")
     word = re.compile(r"(?<![\w'.\-])small (?=[A-Za-z0-9(])")
-    return "\n".join(l if l.lstrip().startswith(("--", "//")) else word.sub("AllWithin ", l) for l in text.split("\n"))
+    # In a comment it is a word, and once it is a variable.
+    kept = ("--", "//", "written-fits gs xs n small", "small-fits (within-small (small v)")
+    return "\n".join(l if l.lstrip().startswith(kept) else word.sub("AllWithin ", l) for l in text.split("\n"))
 
 
 def aligned(text):
