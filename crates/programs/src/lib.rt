@@ -347,6 +347,8 @@ fn place(next: Next) -> usize
 }
 
 // The image of the program that the words are, or why they are none.
+// Within its callers its images lie over theirs, which keeps the library within 64 KiB of stack.
+#[inline(always)]
 pub fn load(words: &[u32]) -> Loaded
     ensures { result ≡ loaded (read words.now) }
 {
