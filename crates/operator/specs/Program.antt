@@ -2,7 +2,7 @@
 --
 -- told        — what a call of a reader or a writer gave, as an answer: the bytes that it moved, or the system's number of its error; 0 where it has none
 -- HasRoom     — a whole stream has no more bytes than there is room for
--- AllCame     — of a reader whose bytes are known: where reading came to an end, the bytes that were read are the next ones that it had, all of them or as many as there is room for
+-- AllCame     — of a reader whose bytes are known: where reading came to an end, the bytes read are the next ones that it had, all or as many as have room
 -- lines_after — the lines that are printed once reading has ended so: the report of the bytes that were read, if they are the whole input; else nothing
 -- Leads       — a list begins with a text of so many bytes, and is as it was behind it
 -- WentOut     — of a writer whose bytes are known: it has all of the lines behind what it had, or, where writing failed, those at their front
