@@ -8,7 +8,7 @@ ghost use Rattle.std.specs.Prelude.{◌<◌, ◌≤◌, IfSome, length};
 use programs::{Checked, Counts};
 use runs::Stepped;
 use std::io;
-use std::io::{BufWriter, Read, Write};
+use std::io::{Read, Write};
 use words::Refusal;
 
 // A vector: the call, its number, its words and those of the state, of which only the two steps have any; how many words it has in all.
@@ -236,10 +236,23 @@ fn on_bytes<W: Write>(out: &mut W, b: &[u8]) -> io::Result<()> {
     Ok(())
 }
 
+// Reads until b is full, or until there is nothing more or a read fails. How many bytes came?
+fn read_full<R: Read>(input: &mut R, b: &mut [u8]) -> usize
+    ensures { result ≤ length b.new }
+{
+    let mut done: usize = 0;
+    while done < b.len() {
+        let n = input.read(&mut b[done..]).unwrap_or(0);
+        if n == 0 {
+            break;
+        }
+        done += n;
+    }
+    done
+}
+
 fn main(rt: HostRuntime) -> io::Result<()> {
-    let mut input = Vec::new(rt.alloc());
-    rt.stdin().take(65536).read_to_end(&mut input)?;
-    let mut out = BufWriter::new(rt.alloc(), io::writer(&rt))?;
-    on_bytes(&mut out, &input)?;
-    out.flush()
+    let mut bytes = [0u8; 65536];
+    let n = read_full(&mut rt.stdin(), &mut bytes);
+    on_bytes(&mut rt.stdout(), &bytes[..n])
 }

@@ -9,9 +9,8 @@ ghost use Rattle.std.specs.Prelude.{◌+◌, ◌*◌, ◌<◌, ◌≤◌, ◌^�
 use ask::Asked;
 use findings::Listed;
 use judge::Judged;
-use std::alloc::Global;
 use std::io;
-use std::io::{BufWriter, Read, Write};
+use std::io::{Read, Write};
 use words::Refusal;
 
 fn wide(word: u32) -> usize
@@ -233,61 +232,71 @@ fn on_bytes<W: Write>(out: &mut W, b: &[u8], n: usize) -> io::Result<()>
     vector(out, &space[..n])
 }
 
-// The bytes that come next, n of them or as many as there are.
-fn next_bytes<R: Read>(alloc: Global, input: &mut R, n: usize) -> io::Result<Vec<u8>> {
-    let mut bytes = Vec::new(alloc);
-    input.by_ref().take(n as u64).read_to_end(&mut bytes)?;
-    Ok(bytes)
+// Reads until b is full, or until there is nothing more or a read fails. How many bytes came?
+fn read_full<R: Read>(input: &mut R, b: &mut [u8]) -> usize
+    ensures { result ≤ length b.new }
+{
+    let mut done: usize = 0;
+    while done < b.len() {
+        let n = input.read(&mut b[done..]).unwrap_or(0);
+        if n == 0 {
+            break;
+        }
+        done += n;
+    }
+    done
 }
 
 // The count of words that comes next; 0 where the input ends.
-fn next_count<R: Read>(alloc: Global, input: &mut R) -> io::Result<usize> {
-    let b = next_bytes(alloc, input, 4)?;
-    if b.len() < 4 {
-        return Ok(0);
+fn next_count<R: Read>(input: &mut R) -> usize {
+    let mut b = [0u8; 4];
+    let got = read_full(input, &mut b);
+    if got < 4 {
+        return 0;
     }
     let mut w = [0u32; 1];
-    little::to_words(&b, &mut w[..], 1);
-    Ok(wide(w[0]))
+    little::to_words(&b[..], &mut w[..], 1);
+    wide(w[0])
 }
 
-// The vector of n words whose bytes come next. Was it there?
+// The vector of n words whose bytes come next, in room for just these. Was it there?
 fn read_vector<R: Read, W: Write>(
-    alloc: Global,
     input: &mut R,
     out: &mut W,
+    b: &mut [u8],
     n: usize,
 ) -> io::Result<bool>
-    requires { n ≤ 16384 }
+    requires { (n * 4 ≤ length b.old) × (n ≤ 16384) }
 {
-    let b = next_bytes(alloc, input, n * 4)?;
-    if b.len() < n * 4 {
+    let got = read_full(input, &mut *b);
+    if got < b.len() {
         return Ok(false);
     }
-    on_bytes(out, &b, n)?;
+    on_bytes(out, &b[..], n)?;
     Ok(true)
 }
 
 // The next vector. Was there one?
-fn next<R: Read, W: Write>(alloc: Global, input: &mut R, out: &mut W) -> io::Result<bool> {
-    let n = next_count(alloc, input)?;
+fn next<R: Read, W: Write>(input: &mut R, out: &mut W) -> io::Result<bool> {
+    let n = next_count(input);
     if n == 0 {
         return Ok(false);
     }
     if n > 16384 {
         return Ok(false);
     }
-    read_vector(alloc, input, out, n)
+    let mut room = [0u8; 65536];
+    read_vector(input, out, &mut room[..n * 4], n)
 }
 
 // At most 4,096 vectors.
 fn main(rt: HostRuntime) -> io::Result<()> {
     let mut input = rt.stdin();
-    let mut out = BufWriter::new(rt.alloc(), io::writer(&rt))?;
+    let mut out = rt.stdout();
     for _ in 0..4096 {
-        if !next(rt.alloc(), &mut input, &mut out)? {
+        if !next(&mut input, &mut out)? {
             break;
         }
     }
-    out.flush()
+    Ok(())
 }
