@@ -21,9 +21,9 @@ loop-i-preserved c =
     let a = c.args in
     elim c.if-key-lt1024.branch [
       | then-key-lt1024 w ↦
-          rw w.table-is (omega arith, length-set l.table _ _ ∙ l.invariant.1, λ nodes k. block-hit a.kept.now nodes a.premises.now a.keys.now l.i (l.invariant.2 nodes k) a.columns.now w.wide.result w.meet-q.result k w.if-key-lt1024.true w.wide.ensures w.meet-q.ensures)
+          rw w.table-is (omega arith, length-set l.table _ _ ∙ l.invariant.1, λ nodes k. block-hit a.kept.now nodes a.premises.now a.keys.now l.i (l.invariant.2 nodes k) a.columns.now w.wide.result w.meet-q.result k (omega arith) w.wide.ensures w.meet-q.ensures)
       | else-key-lt1024 w ↦
-          rw w.table-is (omega arith, l.invariant.1, λ nodes k. block-miss a.kept.now nodes a.premises.now a.keys.now l.i (l.invariant.2 nodes k) w.if-key-lt1024.false)
+          rw w.table-is (omega arith, l.invariant.1, λ nodes k. block-miss a.kept.now nodes a.premises.now a.keys.now l.i (l.invariant.2 nodes k) (omega arith))
     ]
 
 pub returns : goal.returns

@@ -18,4 +18,4 @@ returns-then-needed-gt0 c =
 
 pub returns-else-needed-gt0 : goal.returns-else-needed-gt0
 returns-else-needed-gt0 c =
-    λ ls g edges r gl. none-laid (findings (the_program c.args.words.now) ls g) gl c.args.list.now (c.lay-needed.ensures ls g edges r) c.if-room-needed.false c.clear.ensures c.if-needed-gt0.false
+    λ ls g edges r gl. none-laid (findings (the_program c.args.words.now) ls g) gl c.args.list.now (c.lay-needed.ensures ls g edges r) c.if-room-needed.false c.clear.ensures (omega arith)

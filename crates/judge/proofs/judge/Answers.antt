@@ -6,7 +6,7 @@ use Rattle.judge.proofs.judge.Goals as goal
 
 pub returns-then-graph-lt-ROOM : goal.returns-then-graph-lt-ROOM
 returns-then-graph-lt-ROOM c =
-    let all = short-graph c.args.words.now c.args.lemmas.now c.args.graph.now c.args.path.now c.if-graph-lt-ROOM.true in record { answer = all.0; graph = all.1.0; path = all.1.1.0; demand2 = all.1.1.1.0; demand3 = all.1.1.1.1.0; shortest = all.1.1.1.1.1 }
+    let all = short-graph c.args.words.now c.args.lemmas.now c.args.graph.now c.args.path.now (omega arith) in record { answer = all.0; graph = all.1.0; path = all.1.1.0; demand2 = all.1.1.1.0; demand3 = all.1.1.1.1.0; shortest = all.1.1.1.1.1 }
 
 pub returns-then-path-lt-PATH_ROOM : goal.returns-then-path-lt-PATH_ROOM
 returns-then-path-lt-PATH_ROOM c =

@@ -59,16 +59,19 @@ pub returns-then-off-vars : goal.returns-then-off-vars
 returns-then-off-vars c =
     let s = c.args in
     let o = off-is (goal.at.returns-then-off-vars c).After-lowest_off-off in
-    let h : off s.b s.state.now < length s.state.now = rw o at c.if-off-vars.true in
+    let t : c.lowest_off-off.result < length s.state.now = omega arith in
+    let h : off s.b s.state.now < length s.state.now = rw o at t in
     rw (on-is (goal.at.returns-then-off-vars c).Else-failing-lt0, lt-ltb (off s.b s.state.now) (length s.state.now) h) (ap RunsOff o, refl)
 
 pub write-requires : goal.write-requires
 write-requires c =
     let s = c.args in
-    (c.requires.1, λ v h. rw c.values-new.ensures (written-fits s.b.ranges (new s.b) (length s.state.now) c.requires.0.ranges (rw (off-is (goal.at.write-requires c).After-lowest_off-off) at c.if-off-vars.false) v h))
+    let t : length s.state.now ≤ c.lowest_off-off.result = omega arith in
+    (c.requires.1, λ v h. rw c.values-new.ensures (written-fits s.b.ranges (new s.b) (length s.state.now) c.requires.0.ranges (rw (off-is (goal.at.write-requires c).After-lowest_off-off) at t) v h))
 
 pub returns : goal.returns
 returns c =
     let s = c.args in
-    let h : length s.state.now ≤ off s.b s.state.now = rw (off-is (goal.at.returns c).After-lowest_off-off) at c.if-off-vars.false in
+    let t : length s.state.now ≤ c.lowest_off-off.result = omega arith in
+    let h : length s.state.now ≤ off s.b s.state.now = rw (off-is (goal.at.returns c).After-lowest_off-off) at t in
     rw (on-is (goal.at.returns c).Else-failing-lt0, le-ltb (off s.b s.state.now) (length s.state.now) h) (refl, rw c.values-new.ensures at c.write.ensures)

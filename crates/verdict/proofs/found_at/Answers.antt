@@ -9,7 +9,7 @@ pub returns-then-b-forbidden : goal.returns-then-b-forbidden
 returns-then-b-forbidden c =
     let w = c.word_at-set in
     let k = c.args.k in
-    (omega arith, λ p ls g J h. node-forbids J k h w.result c.first_free-b.result w.ensures c.first_free-b.ensures c.if-b-forbidden.true)
+    (omega arith, λ p ls g J h. node-forbids J k h w.result c.first_free-b.result w.ensures c.first_free-b.ensures (omega arith))
 
 pub returns : goal.returns
 returns c =
@@ -17,5 +17,5 @@ returns c =
     let a = c.args in
     let shown = c.gather_all-known in (
       subst (Within (a.k + 1)) (sym c.first_unshown.ensures) (off-within a.asked shown.result a.k 0 a.actions),
-      λ p ls g J h. node-off J a.k h w.result c.first_free-b.result w.ensures c.first_free-b.ensures c.if-b-forbidden.false shown.result shown.ensures c.first_unshown.result c.first_unshown.ensures,
+      λ p ls g J h. node-off J a.k h w.result c.first_free-b.result w.ensures c.first_free-b.ensures (omega arith) shown.result shown.ensures c.first_unshown.result c.first_unshown.ensures,
     )
