@@ -213,7 +213,7 @@ called() { # TIMES
 built() { # NAME CALLS LINES
     run now "PATH=$room/rt:$tools $tree/judge \$fade"
     cmp -s "$room/now.out" "$room/seven" && [ "$(<"$room/now.status")" = 0 ] && [ "$(wc -l <"$room/now.err")" = "$3" ] && called "$2" \
-        && { [ "$3" = 0 ] || [[ $(<"$room/now.err") == "bulanevior: proving and building once; the log is $tree/target/judge.log" ]]; } \
+        && { [ "$3" = 0 ] || [[ $(<"$room/now.err") == "bulanevior: building once, about 5 minutes; the log is $tree/target/judge.log" ]]; } \
         && [ "$(<"$tree/target/judge.log")" = "$(printf 'rt: on standard output\nrt: on standard error')" ]
     say "$1" $?
 }
