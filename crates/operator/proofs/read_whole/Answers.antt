@@ -39,3 +39,7 @@ returns-in-Whole g c =
     let fits = within Read room l.done l.tries v.n c.answer.result l.invariant.1 (by_answer Read room l.done l.tries c.answer.result c.next.result (Whole v.n) c.next.ensures v.is) in
     let came = read_out _ _ _ l.bytes c.read-got.new.buf room l.done l.tries l.invariant.0 l.invariant.1 (search rules) c.read-got.result v.n l.invariant.3 c.read-got.ensures.bound c.read-got.ensures.bytes e in
     record { room = omega (arith, fits, l.invariant.0); came = (came.0, λ less. came.1 (omega (arith, less, l.invariant.0))) }
+
+-- nothing is said of what was read
+pub returns-in-Broken : goal.returns-in-Broken
+returns-in-Broken g c = record { room = tt; came = tt }
