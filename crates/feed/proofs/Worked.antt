@@ -2,7 +2,7 @@
 use mathlib.Core.Path.{◌≡◌, refl}
 use mathlib.Core.List.{[], ◌∷◌}
 use lib.IntN.{pos, negsuc}
-use Rattle.words.specs.declared.Refusal.TheVariants.{Word as Missing, Value}
+use Rattle.words.specs.declared.Refusal.TheVariants.{Word, Value}
 use Rattle.grammar.specs.Reading.{got, refused, due, one}
 use Rattle.feed.specs.Steps.{row_step, fed, begun}
 
@@ -18,12 +18,12 @@ row_then_end : fed (begun 1 4) (0x2FFFFFFB ∷ [])
 unfolding fed row_step one due
 row_then_end = refl
 
-end-at-once : fed (begun 1 4) [] ≡ refused (Missing 4)
+end-at-once : fed (begun 1 4) [] ≡ refused (Word 4)
 unfolding fed row_step one
 end-at-once = refl
 
 -- a TERM where a ROW is due is 2; one whose variable does not rise, or is not known, is 4
-no_row : fed (begun 1 4) (0x30000001 ∷ []) ≡ refused (Missing 4)
+no_row : fed (begun 1 4) (0x30000001 ∷ []) ≡ refused (Word 4)
 unfolding fed row_step one due
 no_row = refl
 

@@ -2,10 +2,7 @@
 --
 -- held    — the record of what is kept and of the coefficients lent
 -- stepped — the step of an answer and of the coefficients at exit
--- goes_on — does a step want another word?
-use Rattle.std.specs.Prelude.{Bool, true, false, List, ℤ}
-use Rattle.feed.specs.declared.Said.{Said}
-use Rattle.feed.specs.declared.Said.TheVariants.{GoOn, Complete, Refused}
+use Rattle.std.specs.Prelude.{List, ℤ}
 use Rattle.feed.specs.declared.Kept.{Kept}
 use Rattle.feed.specs.declared.Answer.{Answer}
 use Rattle.feed.specs.Steps.{Held, Step}
@@ -15,8 +12,3 @@ held k c = record { kept = k; coef = c }
 
 abbrev pub stepped : Answer → List ℤ → Step
 stepped r c = record { held = held r.kept c; said = r.said }
-
-abbrev pub goes_on : Said → Bool
-goes_on GoOn = true
-goes_on Complete = false
-goes_on (Refused r) = false

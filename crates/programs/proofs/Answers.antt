@@ -6,48 +6,45 @@ use Prim.Native.Nat.{ℕ, ◌+◌, ◌-◌, ◌*◌, ◌≤◌, ◌<◌}
 use native.Mathlib.Omega.{arith}
 use lib.ListN.{length, get_or, take, drop, length-map, length-drop, get_or-eq_default}
 use lib.Seq.{length-take-le}
+use Rattle.std.specs.Prelude.{Ok, Err, IsOk}
 use Rattle.integers.proofs.Fill.{get_d_mapped}
 use Rattle.words.specs.declared.Refusal.{Refusal}
 use Rattle.grammar.specs.Reading.{Read, got, refused}
-use Rattle.grammar.specs.Programs.{Program}
+use Rattle.grammar.specs.Programs.{Action, Program}
 use Rattle.grammar.specs.Grammar.{action}
 use Rattle.grammar.specs.Encoding.{encode_action}
 use Rattle.grammar.proofs.ProgramLaws.{Accepted, accepted}
-use Rattle.reader.specs.declared.Next.TheVariants.{At}
-use Rattle.reader.specs.declared.Next.TheVariants.{Refused as Stopped}
-use Rattle.actions.specs.declared.ActionRead.{ActionRead}
-use Rattle.actions.specs.Results.{action_read}
+use Rattle.actions.specs.declared.Action.{Action as ActionRead}
+use Rattle.actions.specs.Results.{action_image, action_read}
 use Rattle.programs.specs.declared.Image.{Image}
 use Rattle.programs.specs.declared.Part.{Part}
-use Rattle.programs.specs.declared.Loaded.{Loaded}
-use Rattle.programs.specs.declared.Status.TheVariants.{Ready, Failed}
-use Rattle.programs.specs.declared.Checked.TheVariants.{Good, Refused}
 use Rattle.programs.specs.Calls.{read, checked, parts, actions_at, part_of, action_part, PartOf, place_in, part_place, StandsAt, word_at}
 use Rattle.programs.specs.Images.{image_of, loaded}
 use Rattle.programs.specs.Places.{places, first_action}
 use Rattle.programs.proofs.Places.{action_k, none_action, stored_at, length-places}
 use Rattle.programs.proofs.ActionParts.{parts_are, places-are, part-is}
 
--- ---- Check
-pub check-refused : (m : Read Program) {x : Loaded} {r : Refusal} → x ≡ loaded m → x.status ≡ Failed r → Refused r ≡ checked m
-check-refused (got p us i) e h = let z : ◌≡◌ {A = ℕ} 0 1 = cc (ap (λ (y : Loaded). y.status) e) in absurd (omega arith)
-check-refused (refused q) e h = cc (ap (λ (y : Loaded). y.status) e)
+-- ---- what `load` gives
+pub loaded-ok : (m : Read Program) {x : Image} → Ok x ≡ loaded m → (p : Program) × (us : List ℕ) × (i : ℕ) × (m ≡ got p us i) × (x ≡ image_of p)
+loaded-ok (got p us i) e = (p, us, i, refl, cc e)
+loaded-ok (refused r) e = cc e
 
-pub check-good : (m : Read Program) {x : Loaded} → x ≡ loaded m → x.status ≡ Ready
-    → Good (record { variables = x.image.vars; start_rows = x.image.starts; predicates = x.image.preds; actions = x.image.actions; forbidden = x.image.forbidden }) ≡ checked m
-check-good (got p us i) e h = ap (λ (y : Loaded). Good (record { variables = y.image.vars; start_rows = y.image.starts; predicates = y.image.preds; actions = y.image.actions; forbidden = y.image.forbidden })) e
-check-good (refused q) e h = let z : ◌≡◌ {A = ℕ} 0 1 = cc (ap (λ (y : Loaded). y.status) e) in absurd (omega arith)
+pub loaded-err : (m : Read Program) {r : Refusal} → Err r ≡ loaded m → m ≡ refused r
+loaded-err (got p us i) e = cc e
+loaded-err (refused q) e = cc e
+
+-- ---- Check
+pub check-ok : (m : Read Program) {x : Image} → Ok x ≡ loaded m
+    → Ok (record { variables = x.vars; start_rows = x.starts; predicates = x.preds; actions = x.actions; forbidden = x.forbidden }) ≡ checked m
+check-ok (got p us i) {x} e = let f : x ≡ image_of p = cc e in rw f refl
+check-ok (refused r) e = cc e
+
+pub check-err : (m : Read Program) {r : Refusal} → Err r ≡ loaded m → Err r ≡ checked m
+check-err m e = rw (loaded-err m e) refl
 
 -- ---- Action part
 pub part-of : (ws : List ℕ) (at n : ℕ) → at + n ≤ length ws → PartOf ws (take n (drop at ws))
 part-of ws at n h = (at, ap (λ (m : ℕ). take m (drop at ws)) (sym (length-take-le n (drop at ws) (simp length-drop (omega arith)))))
-
-no_action_lem : (ws : List ℕ) (m : Read Program) (k : ℕ) {x : Loaded} → read ws ≡ m → x ≡ loaded m → x.image.actions ≤ k → [] ≡ part_of m ws k
-no_action_lem ws (got p us i) k q e h =
-    let n = ap (λ (y : Loaded). y.image.actions) e in
-    let l = ap length (parts_are ws p (accepted ws p us i q)) ∙ length-map p.actions encode_action in
-    sym (get_or-eq_default (parts ws) [] (omega arith))
-no_action_lem ws (refused r) k q e h = refl
 
 -- an action's place in the image is where its words begin
 stored-place : (p : Program) (k : ℕ) → length p.actions ≤ 16 → k < length p.actions → get_or (image_of p).action_at k 0 ≡ get_or (places encode_action (first_action p) p.actions) k 0
@@ -55,17 +52,17 @@ stored-place p k few h =
     let n = length-places encode_action (first_action p) p.actions in
     stored_at 16 0 (places encode_action (first_action p) p.actions) k 0 (omega arith) (omega arith)
 
-at_same : {i j : ℕ} → At i ≡ At j → i ≡ j
-at_same e = cc e
-
 -- action k in the image of an accepted program: what is read where it begins, and where it ends
 pub record Found (ws : List ℕ) (k : ℕ) (g : Image) (part : List ℕ) : Type 0 where
   pub few : g.vars ≤ 8
   pub small : k < 16
   pub begin : get_or g.action_at k 0 ≤ length ws
-  pub never : {y : ActionRead} {r : Refusal} → y ≡ action_read (action g.vars true (drop (get_or g.action_at k 0) ws) (get_or g.action_at k 0)) → y.next ≡ Stopped r → ⊥
-  pub ends : {y : ActionRead} {j : ℕ} → y ≡ action_read (action g.vars true (drop (get_or g.action_at k 0) ws) (get_or g.action_at k 0)) → y.next ≡ At j
-      → (get_or g.action_at k 0 ≤ j) × (j ≤ length ws) × (take (j - get_or g.action_at k 0) (drop (get_or g.action_at k 0) ws) ≡ part)
+  pub there : IsOk (action_read (action g.vars true (drop (get_or g.action_at k 0) ws) (get_or g.action_at k 0)))
+  pub ends : {y : ActionRead × ℕ} → Ok y ≡ action_read (action g.vars true (drop (get_or g.action_at k 0) ws) (get_or g.action_at k 0))
+      → (get_or g.action_at k 0 ≤ y.1) × (y.1 ≤ length ws) × (take (y.1 - get_or g.action_at k 0) (drop (get_or g.action_at k 0) ws) ≡ part)
+
+read-end : {m : Read Action} {a : Action} {us : List ℕ} {n : ℕ} {y : ActionRead × ℕ} → m ≡ got a us n → Ok y ≡ action_read m → y.1 ≡ n
+read-end {a = a} {n = n} {y = y} q e = let p : y ≡ (action_image a, n) = cc (rw q at e) in ap (λ (z : ActionRead × ℕ). z.1) p
 
 span : (ws : List ℕ) (at n : ℕ) {j : ℕ} {part : List ℕ} → at + n ≤ length ws → take n (drop at ws) ≡ part → j ≡ at + n → (at ≤ j) × (j ≤ length ws) × (take (j - at) (drop at ws) ≡ part)
 span ws at n {j} h e q = let m : j - at ≡ n = omega arith in (omega arith, omega arith, rw m e)
@@ -82,21 +79,18 @@ found_in ws k p ok h =
       few = few;
       small = omega arith;
       begin = rw same (omega (arith, t.here));
-      never = λ e r. let q = rw (same, t.read) at e in let z : ◌≡◌ {A = ℕ} 0 1 = cc (ap (λ (y : ActionRead). y.next) q, r) in omega arith;
-      ends = λ e r.
-          let q = rw (same, t.read) at e in
-          rw (same, get_d_mapped encode_action p.actions k none_action [] h) (span ws at (length (encode_action a)) t.here t.words (at_same (sym r ∙ ap (λ (y : ActionRead). y.next) q)));
+      there = rw (same, t.read) refl;
+      ends = λ {y} e.
+          let from = get_or (image_of p).action_at k 0 in
+          let q : action (length p.ranges) true (drop from ws) from ≡ got a t.rest (at + length (encode_action a)) = rw same t.read in
+          rw (same, get_d_mapped encode_action p.actions k none_action [] h) (span ws at (length (encode_action a)) t.here t.words (read-end q e));
     }
 
--- ---- from what `load` gives
-pub found : (ws : List ℕ) (k : ℕ) {x : Loaded} → x ≡ loaded (read ws) → k < x.image.actions → Found ws k x.image (action_part ws k)
-found ws k {x} e h = go (read ws) refl e
-  where
-    go : (m : Read Program) → read ws ≡ m → x ≡ loaded m → Found ws k x.image (part_of (read ws) ws k)
-    go (got p us i) q f =
-        let n = ap (λ (y : Loaded). y.image.actions) f in
-        rw (ap (λ (y : Loaded). y.image) f, part-is ws p q k) (found_in ws k p (accepted ws p us i q) (omega arith))
-    go (refused r) q f = let n = ap (λ (y : Loaded). y.image.actions) f in absurd (omega arith)
+pub found : (ws : List ℕ) (k : ℕ) {x : Image} → Ok x ≡ loaded (read ws) → k < x.actions → Found ws k x (action_part ws k)
+found ws k {x} e h =
+    let (p, us, i, q, f) = loaded-ok (read ws) e in
+    let n = ap (λ (y : Image). y.actions) f in
+    rw (f, part-is ws p q k) (found_in ws k p (accepted ws p us i q) (omega arith))
 
 -- ---- where the words of an action stand
 is-part : (x : Part) {at n : ℕ} → at ≡ x.start → n ≡ x.length → record { start = at; length = n } ≡ x
@@ -109,34 +103,46 @@ place-length : (m : Read Program) (ws : List ℕ) (k : ℕ) → (place_in m ws k
 place-length (got p us i) ws k = refl
 place-length (refused r) ws k = refl
 
-no_start : (ws : List ℕ) (m : Read Program) (k : ℕ) {x : Loaded} → read ws ≡ m → x ≡ loaded m → x.image.actions ≤ k → 0 ≡ (place_in m ws k).start
-no_start ws (got p us i) k q e h =
-    let n = ap (λ (y : Loaded). y.image.actions) e in
-    let l = ap length (places-are ws p (accepted ws p us i q)) ∙ length-places encode_action (first_action p) p.actions in
-    sym (get_or-eq_default (actions_at 0 ws) 0 (omega arith))
-no_start ws (refused r) k q e h = refl
+module _ (ws : List ℕ) (k : ℕ) {p : Program} {us : List ℕ} {i : ℕ} (q : read ws ≡ got p us i) where
+  placed : (part_place ws k).start ≡ get_or (actions_at 0 ws) k 0
+  placed = rw q refl
 
-pub no_place : (ws : List ℕ) (k : ℕ) {x : Loaded} → x ≡ loaded (read ws) → x.image.actions ≤ k → Placed ws k (record { start = 0; length = 0 })
-no_place ws k e h =
-    let none = no_action_lem ws (read ws) k refl e h in
-    (is-part (part_place ws k) (no_start ws (read ws) k refl e h) (ap length none ∙ sym (place-length (read ws) ws k)), (omega arith, none))
+  part_k : action_part ws k ≡ get_or (parts ws) k []
+  part_k = rw q refl
 
-start-found : (ws : List ℕ) (k : ℕ) {x : Loaded} → x ≡ loaded (read ws) → k < x.image.actions → get_or x.image.action_at k 0 ≡ (part_place ws k).start
-start-found ws k {x} e h = go (read ws) refl e
-  where
-    go : (m : Read Program) → read ws ≡ m → x ≡ loaded m → get_or x.image.action_at k 0 ≡ (place_in m ws k).start
-    go (got p us i) q f =
-        let n = ap (λ (y : Loaded). y.image.actions) f in
-        let ok = accepted ws p us i q in
-        ap (λ (y : Loaded). get_or y.image.action_at k 0) f ∙ stored-place p k ok.good.actions.few (omega arith) ∙ ap (λ (ns : List ℕ). get_or ns k 0) (sym (places-are ws p ok))
-    go (refused r) q f = let n = ap (λ (y : Loaded). y.image.actions) f in absurd (omega arith)
+abbrev nowhere : Part
+nowhere = record { start = 0; length = 0 }
 
-pub place_found : (ws : List ℕ) (k : ℕ) {x : Loaded} {j : ℕ} → x ≡ loaded (read ws) → k < x.image.actions → let at = get_or x.image.action_at k 0 in
-    (at ≤ j) × (j ≤ length ws) × (take (j - at) (drop at ws) ≡ action_part ws k) → Placed ws k (record { start = at; length = j - at })
-place_found ws k {x} {j} e h (low, high, words) =
-    let at = get_or x.image.action_at k 0 in
-    let long : length (take (j - at) (drop at ws)) ≡ j - at = length-take-le (j - at) (drop at ws) (simp length-drop (omega arith)) in
-    (is-part (part_place ws k) (start-found ws k e h) (sym long ∙ ap length words ∙ sym (place-length (read ws) ws k)), (omega arith, words))
+-- no program, or no such action
+pub no_program : (ws : List ℕ) (k : ℕ) {r : Refusal} → Err r ≡ loaded (read ws) → Placed ws k nowhere
+no_program ws k e = rw (loaded-err (read ws) e) (refl, (omega arith, refl))
+
+module _ (ws : List ℕ) (k : ℕ) {x : Image} (e : Ok x ≡ loaded (read ws)) where
+  pub no_action_k : x.actions ≤ k → Placed ws k nowhere
+  no_action_k h =
+      let (p, us, i, q, f) = loaded-ok (read ws) e in
+      let ok = accepted ws p us i q in
+      let n = ap (λ (y : Image). y.actions) f in
+      let l = ap length (parts_are ws p ok) ∙ length-map p.actions encode_action in
+      let m = ap length (places-are ws p ok) ∙ length-places encode_action (first_action p) p.actions in
+      let none : get_or (parts ws) k [] ≡ [] = get_or-eq_default (parts ws) [] (omega arith) in
+      let start : get_or (actions_at 0 ws) k 0 ≡ 0 = get_or-eq_default (actions_at 0 ws) 0 (omega arith) in (
+        is-part (part_place ws k) (sym (placed ws k q ∙ start)) (ap length (sym none ∙ sym (part_k ws k q)) ∙ sym (place-length (read ws) ws k)),
+        (omega arith, sym none ∙ sym (part_k ws k q)),
+      )
+
+  pub place_found : {j : ℕ} → k < x.actions → let at = get_or x.action_at k 0 in
+      (at ≤ j) × (j ≤ length ws) × (take (j - at) (drop at ws) ≡ action_part ws k) → Placed ws k (record { start = at; length = j - at })
+  place_found {j} h (low, high, words) =
+      let (p, us, i, q, f) = loaded-ok (read ws) e in
+      let ok = accepted ws p us i q in
+      let n = ap (λ (y : Image). y.actions) f in
+      let at = get_or x.action_at k 0 in
+      let start : at ≡ (part_place ws k).start =
+      ap (λ (y : Image). get_or y.action_at k 0) f ∙ stored-place p k ok.good.actions.few (omega arith)
+      ∙ ap (λ (ns : List ℕ). get_or ns k 0) (sym (places-are ws p ok)) ∙ sym (placed ws k q) in
+      let long : length (take (j - at) (drop at ws)) ≡ j - at = length-take-le (j - at) (drop at ws) (simp length-drop (omega arith)) in
+      (is-part (part_place ws k) start (sym long ∙ ap length words ∙ sym (place-length (read ws) ws k)), (omega arith, words))
 
 -- the pointer to word n of a list, by its byte
 pub placed_at : (list : ℕ × ℕ) (n : ℕ) {byte : ℕ} → byte ≡ list.1 + 4 * n → (list.0, byte) ≡ word_at list n

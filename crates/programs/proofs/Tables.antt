@@ -1,11 +1,11 @@
 -- A table with a number for each action of a program: the loop that makes it, and what it has for an action.
-use mathlib.Core.Path.{◌≡◌, refl, sym, ◌∙◌}
-use mathlib.Core.List.{List, [], map}
+use mathlib.Core.Path.{◌≡◌, sym, ◌∙◌}
+use mathlib.Core.List.{List, map}
 use Prim.Native.Nat.{ℕ, ◌+◌, ◌≤◌, ◌<◌}
 use native.Mathlib.Decide.{dec_lt}
 use native.Mathlib.Numerals.{add-one}
 use native.Mathlib.Omega.{arith}
-use lib.ListN.{length, get_or, set, drop, replicate, length-map, length-set, drop_of_length-le, get_or-eq_default}
+use lib.ListN.{length, get_or, set, drop, replicate, length-map, length-set, get_or-eq_default}
 use lib.Seq.{sets, drop-cons, length-sets}
 use Rattle.integers.proofs.Fill.{get_d_mapped}
 use Rattle.grammar.specs.Programs.{Action, Program}
@@ -25,9 +25,6 @@ module _ (f : Action → ℕ) (p : Program) where
     pub long : length t ≡ 16
     pub rest : sets t k (drop k numbers) ≡ table_of f p
 
-  pub tabling-none : Tabling (replicate 16 0) 0
-  tabling-none = record { few = omega arith; long = refl; rest = refl }
-
   module _ (t : List ℕ) (k : ℕ) (h : Tabling t k) where
     pub tabling-next : k < length p.actions → (y : ℕ) → y ≡ f (get_or p.actions k none_action) → Tabling (set t k y) (k + 1)
     tabling-next l y e =
@@ -38,11 +35,6 @@ module _ (f : Action → ℕ) (p : Program) where
           long = length-set t k y ∙ h.long;
           rest = rw add-one (rw (drop-cons numbers k 0 n, here) at h.rest);
         }
-
-    pub tabling-done : length p.actions ≤ k → t ≡ table_of f p
-    tabling-done l =
-        let none : drop k numbers ≡ [] = drop_of_length-le numbers {i = k} (rw count l) in
-        rw none at h.rest
 
   module _ (few : length p.actions ≤ 16) (k : ℕ) where
     pub table_at : k < length p.actions → get_or (table_of f p) k 0 ≡ f (get_or p.actions k none_action)

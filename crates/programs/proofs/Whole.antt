@@ -67,7 +67,7 @@ rest-is : (x : Ranges) (y z : Counted) (gs : List Range) (start ps : List Row) (
     → at ≡ length (concat encode_range gs ++ encode_rows INIT start ++ encode_rows PRED ps)
     → rest_loaded x y z m at ≡ loaded (after m (λ r. pure (program_of gs start ps r)))
 rest-is x y z gs start ps at (got r us i) a b c d e f g =
-    λ t. rest_loaded (record { ranges = a t; count = b t; next = x.next }) (record { rows = c t; count = d t; next = y.next }) (record { rows = e t; count = f t; next = z.next }) (got r us i) (g t)
+    λ t. rest_loaded (record { ranges = a t; count = b t }) (record { rows = c t; count = d t }) (record { rows = e t; count = f t }) (got r us i) (g t)
 rest-is x y z gs start ps at (refused q) a b c d e f g = refl
 
 -- as many variables as ranges

@@ -10,15 +10,14 @@
 -- place_in, part_place      — the index of ACTION word k, and how many words its part has; 0 and 0 where there is none
 -- StandsAt                  — a part's words stand at a place of a list
 -- word_at                   — the pointer to a word of a list, from the pointer to the list
-use Rattle.std.specs.Prelude.{◌≡◌, Bool, cond, ◌||◌, List, [], ◌∷◌, ℕ, suc, ◌+◌, ◌*◌, ◌≤◌, eqb, length, get_or, take, drop}
+use Rattle.std.specs.Prelude.{◌≡◌, Bool, cond, ◌||◌, List, [], ◌∷◌, ℕ, suc, ◌+◌, ◌*◌, ◌≤◌, eqb, length, get_or, take, drop, Result, Ok, Err}
 use Rattle.words.specs.Words.{kind_of, ACTION, SETS, END}
+use Rattle.words.specs.declared.Refusal.{Refusal}
 use Rattle.grammar.specs.Reading.{Read, got, refused}
 use Rattle.grammar.specs.Programs.{Program}
 use Rattle.grammar.specs.Grammar.{program}
 use Rattle.programs.specs.declared.Counts.{Counts}
 use Rattle.programs.specs.declared.Part.{Part}
-use Rattle.programs.specs.declared.Checked.{Checked}
-use Rattle.programs.specs.declared.Checked.TheVariants.{Good, Refused}
 
 abbrev pub read : List ℕ → Read Program
 read ws = program ws 0
@@ -33,11 +32,11 @@ counts_of p =
       forbidden = length p.forbidden;
     }
 
-abbrev pub checked : Read Program → Checked
-checked (got p ws i) = Good (counts_of p)
-checked (refused r) = Refused r
+abbrev pub checked : Read Program → Result Counts Refusal
+checked (got p ws i) = Ok (counts_of p)
+checked (refused r) = Err r
 
-abbrev pub check : List ℕ → Checked
+abbrev pub check : List ℕ → Result Counts Refusal
 check ws = checked (read ws)
 
 -- does an action's part end before this word?

@@ -1,16 +1,15 @@
 -- What the readers of a program's parts give, and the image of a program that the calls work on. Only contracts of functions within the
 -- project cite these.
 --
--- zero_ranges, no_ranges, ranges_from   — ranges
+-- zero_ranges, ranges_from              — ranges
 -- counted_read                          — rows after INIT or PRED
 -- no_shape, action_shape                — how many guard rows an action has and which variables it sets; of no action
--- no_actions, none_stored, actions_from — where actions begin, and their shapes
--- no_forbidden, forbidden_from          — forbidden combinations
--- image_of, no_image, loaded            — the image of a program
+-- none_stored, actions_from             — where actions begin, and their shapes
+-- forbidden_from                        — forbidden combinations
+-- image_of, loaded                      — the image of a program
 -- table_of                              — a number for each action of a program, 0 past the last one
--- place_of                              — the index where reading goes on
 -- Rest, rest, image_with, rest_loaded   — what follows the predicates, and the image with it
-use Rattle.std.specs.Prelude.{List, map, ℕ, ◌+◌, length, replicate}
+use Rattle.std.specs.Prelude.{List, map, ℕ, ◌+◌, length, replicate, Result, Ok, Err}
 use Rattle.std.proofs.lemmas.List.Edits.{sets}
 use Rattle.words.specs.Words.{no_literals, ACTION, SETS}
 use Rattle.words.specs.declared.Refusal.{Refusal}
@@ -22,10 +21,7 @@ use Rattle.grammar.specs.Reading.{Read, Reader, got, refused, pure, ◌>>=◌, m
 use Rattle.grammar.specs.Grammar.{action, combination, end}
 use Rattle.grammar.specs.Programs.{Action, Program}
 use Rattle.grammar.specs.Encoding.{encode_action}
-use Rattle.reader.specs.declared.Next.{Next}
-use Rattle.reader.specs.declared.Next.TheVariants.{At}
-use Rattle.reader.specs.declared.Next.TheVariants.{Refused as Stopped}
-use Rattle.reader.specs.Results.{zero_rows}
+use Rattle.reader.specs.Results.{outcome, zero_rows}
 use Rattle.actions.specs.Results.{variables_set, none_set}
 use Rattle.programs.specs.Places.{places, first_action}
 use Rattle.programs.specs.declared.Ranges.{Ranges}
@@ -34,23 +30,16 @@ use Rattle.programs.specs.declared.Shape.{Shape}
 use Rattle.programs.specs.declared.Actions.{Actions}
 use Rattle.programs.specs.declared.Forbidden.{Forbidden}
 use Rattle.programs.specs.declared.Image.{Image}
-use Rattle.programs.specs.declared.Loaded.{Loaded}
-use Rattle.programs.specs.declared.Status.TheVariants.{Ready, Failed}
 
 abbrev pub zero_ranges : List Range
 zero_ranges = replicate 8 zero_range
 
-abbrev pub no_ranges : Refusal → Ranges
-no_ranges x = record { ranges = zero_ranges; count = 0; next = Stopped x }
-
 -- what is read from index i on, put behind the k ranges that are stored; likewise for actions and combinations
-abbrev pub ranges_from : List Range → ℕ → ℕ → Read (List Range) → Ranges
-ranges_from gs k i (got rs ws j) = record { ranges = sets gs k rs; count = k + length rs; next = At j }
-ranges_from gs k i (refused x) = no_ranges x
+abbrev pub ranges_from : List Range → ℕ → ℕ → Read (List Range) → Result (Ranges × ℕ) Refusal
+ranges_from gs k i m = outcome (λ rs j. (record { ranges = sets gs k rs; count = k + length rs }, j)) m
 
-abbrev pub counted_read : Read (List Row) → Counted
-counted_read (got rs ws i) = record { rows = sets zero_rows 0 rs; count = length rs; next = At i }
-counted_read (refused x) = record { rows = zero_rows; count = 0; next = Stopped x }
+abbrev pub counted_read : Read (List Row) → Result (Counted × ℕ) Refusal
+counted_read m = outcome (λ rs i. (record { rows = sets zero_rows 0 rs; count = length rs }, i)) m
 
 abbrev pub no_shape : Shape
 no_shape = record { count = 0; set = none_set }
@@ -61,20 +50,12 @@ action_shape a = record { count = length a.guards; set = variables_set none_set 
 abbrev pub none_stored : List ℕ × List Shape
 none_stored = (replicate 16 0, replicate 16 no_shape)
 
-abbrev pub no_actions : Refusal → Actions
-no_actions x = record { begin_at = none_stored.0; shapes = none_stored.1; count = 0; next = Stopped x }
+abbrev pub actions_from : List ℕ × List Shape → ℕ → ℕ → Read (List Action) → Result (Actions × ℕ) Refusal
+actions_from s k i m =
+    outcome (λ xs j. (record { begin_at = sets s.0 k (places encode_action i xs); shapes = sets s.1 k (map action_shape xs); count = k + length xs }, j)) m
 
-abbrev pub actions_from : List ℕ × List Shape → ℕ → ℕ → Read (List Action) → Actions
-actions_from s k i (got xs ws j) =
-    record { begin_at = sets s.0 k (places encode_action i xs); shapes = sets s.1 k (map action_shape xs); count = k + length xs; next = At j }
-actions_from s k i (refused x) = no_actions x
-
-abbrev pub no_forbidden : Refusal → Forbidden
-no_forbidden x = record { literals = replicate 8 no_literals; count = 0; next = Stopped x }
-
-abbrev pub forbidden_from : List Literals → ℕ → ℕ → Read (List Literals) → Forbidden
-forbidden_from ls k i (got xs ws j) = record { literals = sets ls k xs; count = k + length xs; next = At j }
-forbidden_from ls k i (refused x) = no_forbidden x
+abbrev pub forbidden_from : List Literals → ℕ → ℕ → Read (List Literals) → Result (Forbidden × ℕ) Refusal
+forbidden_from ls k i m = outcome (λ xs j. (record { literals = sets ls k xs; count = k + length xs }, j)) m
 
 abbrev pub image_of : Program → Image
 image_of p =
@@ -92,32 +73,12 @@ image_of p =
       literals = sets (replicate 8 no_literals) 0 p.forbidden;
     }
 
-abbrev pub no_image : Image
-no_image =
-    record {
-      vars = 0;
-      ranges = zero_ranges;
-      starts = 0;
-      start = zero_rows;
-      preds = 0;
-      pred = zero_rows;
-      actions = 0;
-      action_at = replicate 16 0;
-      shapes = replicate 16 no_shape;
-      forbidden = 0;
-      literals = replicate 8 no_literals;
-    }
-
 abbrev pub table_of : (Action → ℕ) → Program → List ℕ
 table_of f p = sets (replicate 16 0) 0 (map f p.actions)
 
-abbrev pub loaded : Read Program → Loaded
-loaded (got p ws i) = record { status = Ready; image = image_of p }
-loaded (refused x) = record { status = Failed x; image = no_image }
-
-abbrev pub place_of : Next → ℕ
-place_of (At i) = i
-place_of (Stopped x) = 0
+abbrev pub loaded : Read Program → Result Image Refusal
+loaded (got p ws i) = Ok (image_of p)
+loaded (refused x) = Err x
 
 -- what follows the predicates: the actions and the forbidden combinations, up to the end
 pub record Rest : Type 0 where
@@ -132,28 +93,25 @@ rest vars preds = do
   pure (record { actions = xs; forbidden = ls })
 
 -- the image of parts that have been read
-abbrev pub image_with : Ranges → Counted → Counted → List ℕ → List Shape → ℕ → List Literals → ℕ → Loaded
+abbrev pub image_with : Ranges → Counted → Counted → List ℕ → List Shape → ℕ → List Literals → ℕ → Image
 image_with gs start preds places shapes actions literals forbidden =
     record {
-      status = Ready;
-      image = record {
-        vars = gs.count;
-        ranges = gs.ranges;
-        starts = start.count;
-        start = start.rows;
-        preds = preds.count;
-        pred = preds.rows;
-        actions = actions;
-        action_at = places;
-        shapes = shapes;
-        forbidden = forbidden;
-        literals = literals;
-      };
+      vars = gs.count;
+      ranges = gs.ranges;
+      starts = start.count;
+      start = start.rows;
+      preds = preds.count;
+      pred = preds.rows;
+      actions = actions;
+      action_at = places;
+      shapes = shapes;
+      forbidden = forbidden;
+      literals = literals;
     }
 
 -- the image with what was read before and what follows
-abbrev pub rest_loaded : Ranges → Counted → Counted → Read Rest → ℕ → Loaded
-rest_loaded gs start preds (got r ws i) at =
+abbrev pub rest_loaded : Ranges → Counted → Counted → Read Rest → ℕ → Result Image Refusal
+rest_loaded gs start preds m at =
+    outcome (λ r i.
     image_with gs start preds (sets (replicate 16 0) 0 (places encode_action at r.actions)) (sets (replicate 16 no_shape) 0 (map action_shape r.actions))
-    (length r.actions) (sets (replicate 8 no_literals) 0 r.forbidden) (length r.forbidden)
-rest_loaded gs start preds (refused x) at = record { status = Failed x; image = no_image }
+    (length r.actions) (sets (replicate 8 no_literals) 0 r.forbidden) (length r.forbidden)) m

@@ -3,110 +3,66 @@
 
 ghost use Rattle.std.specs.Prelude.{◌≡◌, ◌+◌, ◌-◌, ◌<◌, ◌≤◌, length, take, drop, replicate};
 ghost use Rattle.words.specs.Words.{no_literals, VAR, ACTION, SETS};
-ghost use Rattle.grammar.specs.Reading.{many, refused};
+ghost use Rattle.grammar.specs.Reading.{many};
 ghost use Rattle.grammar.specs.Grammar.{ranges, rows, action, combination, literals_allowed, end};
 ghost use Rattle.reader.specs.Results.{next_of};
 ghost use Rattle.programs.specs.Calls.{read, check, action_part, PartOf, part_place, StandsAt, word_at};
-ghost use Rattle.programs.specs.Images.{no_ranges, ranges_from, zero_ranges, counted_read, no_actions, none_stored, actions_from, no_forbidden, forbidden_from};
-ghost use Rattle.programs.specs.Images.{loaded, place_of, rest, rest_loaded};
-ghost use Rattle.programs.specs.declared.Status.TheVariants.{Ready};
+ghost use Rattle.programs.specs.Images.{ranges_from, zero_ranges, counted_read, none_stored, actions_from, forbidden_from, loaded, rest, rest_loaded};
 
-use reader::Next;
 use rows::{Range, Row};
 use words::{Kind, Literals, Refusal};
 
-// The ranges from place 0 on, how many, and where reading goes on.
+// Ranges from place 0 on, and how many.
 #[derive(Clone, Copy)]
 pub struct Ranges {
     pub ranges: [Range; 8],
     pub count: usize,
-    pub next: Next,
 }
 
-fn no_ranges(why: Refusal) -> Ranges
-    ensures { result ≡ no_ranges why }
-{
-    let zero = Range { low: 0, high: 0 };
-    Ranges {
-        ranges: [zero; 8],
-        count: 0,
-        next: Next::Refused(why),
-    }
-}
-
-// The 1 to 8 ranges at the front of the list.
-fn read_ranges(words: &[u32]) -> Ranges
+// The 1 to 8 ranges at the front of the list, and where reading goes on.
+// A `while`, as in the two loops over items below: the kind of the next word ends it, and one item too many is refused within it. The three stay apart: the
+// contract of one for all would name the item's reader, what is stored of it and its law, and be longer than a loop.
+fn read_ranges(words: &[u32]) -> Result<(Ranges, usize), Refusal>
     ensures { result ≡ ranges_from zero_ranges 0 0 (ranges words.now 0) }
 {
     if !reader::begins(words, 0, Kind::VAR) {
-        return no_ranges(Refusal::Word(0));
+        return Err(Refusal::Word(0));
     }
-    let zero = Range { low: 0, high: 0 };
-    let mut ranges = [zero; 8];
+    let mut ranges = [Range { low: 0, high: 0 }; 8];
     let mut k: usize = 0;
     while reader::begins(words, k, Kind::VAR) {
         let w = reader::word_at(words, k);
         let low = words::low_end(w);
         let high = words::high_end(w);
-        let next = reader::read_word(words, k, k, Kind::VAR, true, k < 8, low <= high);
-        if let Next::Refused(why) = next {
-            return no_ranges(why);
-        }
+        reader::read_word(words, k, k, Kind::VAR, true, k < 8, low <= high)?;
         ranges[k] = Range { low, high };
         k += 1;
     }
-    Ranges {
-        ranges,
-        count: k,
-        next: Next::At(k),
-    }
+    Ok((Ranges { ranges, count: k }, k))
 }
 
-// Rows from place 0 on, how many, and where reading goes on.
+// Rows from place 0 on, and how many.
 #[derive(Clone, Copy)]
 pub struct Counted {
     pub rows: [Row; 14],
     pub count: usize,
-    pub next: Next,
 }
 
-// The word at an index, INIT or PRED, and as many rows as it says.
-fn read_counted(words: &[u32], at: usize, kind: Kind, most: usize, vars: usize) -> Counted
+// The word at an index, INIT or PRED, and as many rows as it says; and where reading goes on.
+fn read_counted(
+    words: &[u32],
+    at: usize,
+    kind: Kind,
+    most: usize,
+    vars: usize,
+) -> Result<(Counted, usize), Refusal>
     requires { (vars ≤ 8) × (most ≤ 14) × (at ≤ length words.now) }
     ensures { result ≡ counted_read (rows kind.0 most vars (drop at words.now) at) }
 {
-    let n = words::count(reader::word_at(words, at));
-    let next = reader::read_word(words, at, at, kind, true, n <= most, true);
-    if let Next::Refused(why) = next {
-        return no_rows(why);
-    }
-    let read = reader::read_rows(words, at + 1, n, vars);
-    let after = read.next;
-    match after {
-        Next::Refused(why) => no_rows(why),
-        Next::At(i) => {
-            let rows = read.rows;
-            Counted {
-                rows,
-                count: n,
-                next: Next::At(i),
-            }
-        }
-    }
-}
-
-fn no_rows(why: Refusal) -> Counted
-    ensures { result ≡ counted_read (refused why) }
-{
-    let blank = Row {
-        coef: [0i64; 8],
-        constant: 0,
-    };
-    Counted {
-        rows: [blank; 14],
-        count: 0,
-        next: Next::Refused(why),
-    }
+    let count = words::count(reader::word_at(words, at));
+    let start = reader::read_word(words, at, at, kind, true, count <= most, true)?;
+    let (rows, end) = reader::read_rows(words, start, count, vars)?;
+    Ok((Counted { rows, count }, end))
 }
 
 // How many rows there are to go by before, an action's guards, and which variables are set.
@@ -116,32 +72,16 @@ pub struct Shape {
     pub set: [bool; 8],
 }
 
-// Where each action begins and its shape, how many there are, and where reading goes on.
+// Where each action begins and its shape, and how many there are.
 #[derive(Clone, Copy)]
 pub struct Actions {
     pub begin_at: [usize; 16],
     pub shapes: [Shape; 16],
     pub count: usize,
-    pub next: Next,
 }
 
-fn no_actions(why: Refusal) -> Actions
-    ensures { result ≡ no_actions why }
-{
-    let blank = Shape {
-        count: 0,
-        set: [false; 8],
-    };
-    Actions {
-        begin_at: [0; 16],
-        shapes: [blank; 16],
-        count: 0,
-        next: Next::Refused(why),
-    }
-}
-
-// The 0 to 16 actions from an index on.
-fn read_actions(words: &[u32], at: usize, vars: usize) -> Actions
+// The 0 to 16 actions from an index on, and where reading goes on.
+fn read_actions(words: &[u32], at: usize, vars: usize) -> Result<(Actions, usize), Refusal>
     requires { (vars ≤ 8) × (at ≤ length words.now) }
     ensures { result ≡ actions_from none_stored 0 at (many ACTION (action vars) 16 (drop at words.now) at) }
 {
@@ -154,46 +94,29 @@ fn read_actions(words: &[u32], at: usize, vars: usize) -> Actions
     let mut i = at;
     let mut k: usize = 0;
     while reader::begins(words, i, Kind::ACTION) {
-        let read = actions::read_action(words, i, vars, k < 16);
-        let next = read.next;
-        match next {
-            Next::Refused(why) => {
-                return no_actions(why);
-            }
-            Next::At(j) => {
-                let count = read.guards;
-                let set = read.set;
-                begin_at[k] = i;
-                shapes[k] = Shape { count, set };
-                i = j;
-                k += 1;
-            }
-        }
+        let (action, next) = actions::read_action(words, i, vars, k < 16)?;
+        let count = action.guards;
+        let set = action.set;
+        begin_at[k] = i;
+        shapes[k] = Shape { count, set };
+        i = next;
+        k += 1;
     }
-    Actions {
-        begin_at,
-        shapes,
-        count: k,
-        next: Next::At(i),
-    }
+    Ok((
+        Actions {
+            begin_at,
+            shapes,
+            count: k,
+        },
+        i,
+    ))
 }
 
-// Forbidden combinations from place 0 on, how many, and where reading goes on.
+// Forbidden combinations from place 0 on, and how many.
 #[derive(Clone, Copy)]
 pub struct Forbidden {
     pub literals: [Literals; 8],
     pub count: usize,
-    pub next: Next,
-}
-
-fn no_forbidden(why: Refusal) -> Forbidden
-    ensures { result ≡ no_forbidden why }
-{
-    Forbidden {
-        literals: [Literals::EMPTY; 8],
-        count: 0,
-        next: Next::Refused(why),
-    }
 }
 
 // Is every predicate of a SETS word one of the program's, and none in both sets?
@@ -204,19 +127,11 @@ pub fn literals_allowed(w: u32, preds: usize) -> bool
     let most = 1u32 << preds;
     let known_false = w / 16384 % 16384;
     let known_true = w % 16384;
-    if known_false < most {
-        if known_true < most {
-            known_false & known_true == 0
-        } else {
-            false
-        }
-    } else {
-        false
-    }
+    known_false < most && known_true < most && known_false & known_true == 0
 }
 
-// The 0 to 8 forbidden combinations from an index on.
-fn read_forbidden(words: &[u32], at: usize, preds: usize) -> Forbidden
+// The 0 to 8 forbidden combinations from an index on, and where reading goes on.
+fn read_forbidden(words: &[u32], at: usize, preds: usize) -> Result<(Forbidden, usize), Refusal>
     requires { (preds ≤ 14) × (at ≤ length words.now) }
     ensures { result ≡ forbidden_from (replicate 8 no_literals) 0 at (many SETS (combination preds) 8 (drop at words.now) at) }
 {
@@ -226,44 +141,25 @@ fn read_forbidden(words: &[u32], at: usize, preds: usize) -> Forbidden
     while reader::begins(words, i, Kind::SETS) {
         let w = reader::word_at(words, i);
         let allowed = literals_allowed(w, preds);
-        let next = reader::read_word(words, i, i, Kind::SETS, true, k < 8, allowed);
-        if let Next::Refused(why) = next {
-            return no_forbidden(why);
-        }
+        i = reader::read_word(words, i, i, Kind::SETS, true, k < 8, allowed)?;
         literals[k] = Literals::of(w);
-        i += 1;
         k += 1;
     }
-    Forbidden {
-        literals,
-        count: k,
-        next: Next::At(i),
-    }
+    Ok((Forbidden { literals, count: k }, i))
 }
 
 // END at an index, and nothing after it.
-fn read_end(words: &[u32], at: usize) -> Next
+fn read_end(words: &[u32], at: usize) -> Result<usize, Refusal>
     requires { at ≤ length words.now }
     ensures { result ≡ next_of (end (drop at words.now) at) }
 {
     let w = reader::word_at(words, at);
-    let next = reader::read_word(words, at, at, Kind::END, w % 268435456 == 0, true, true);
-    match next {
-        Next::Refused(why) => Next::Refused(why),
-        Next::At(i) => {
-            if i < words.len() {
-                Next::Refused(Refusal::Word(i))
-            } else {
-                Next::At(i)
-            }
-        }
+    let i = reader::read_word(words, at, at, Kind::END, w % 268435456 == 0, true, true)?;
+    if i < words.len() {
+        Err(Refusal::Word(i))
+    } else {
+        Ok(i)
     }
-}
-
-#[derive(Clone, Copy)]
-pub enum Status {
-    Ready,
-    Failed(Refusal),
 }
 
 // A program as the calls work on it: its ranges, start rows, predicates and forbidden combinations, and of each action where it begins in the list and its
@@ -283,12 +179,6 @@ pub struct Image {
     pub literals: [Literals; 8],
 }
 
-#[derive(Clone, Copy)]
-pub struct Loaded {
-    pub status: Status,
-    pub image: Image,
-}
-
 // The five counts of a program.
 #[derive(Clone, Copy)]
 pub struct Counts {
@@ -299,145 +189,80 @@ pub struct Counts {
     pub forbidden: usize,
 }
 
-#[derive(Clone, Copy)]
-pub enum Checked {
-    Good(Counts),
-    Refused(Refusal),
-}
-
-fn no_image(why: Refusal) -> Loaded
-    ensures { result ≡ loaded (refused why) }
-{
-    let zero = Range { low: 0, high: 0 };
-    let blank = Row {
-        coef: [0i64; 8],
-        constant: 0,
-    };
-    let unshaped = Shape {
-        count: 0,
-        set: [false; 8],
-    };
-    let image = Image {
-        vars: 0,
-        ranges: [zero; 8],
-        starts: 0,
-        start: [blank; 14],
-        preds: 0,
-        pred: [blank; 14],
-        actions: 0,
-        action_at: [0; 16],
-        shapes: [unshaped; 16],
-        forbidden: 0,
-        literals: [Literals::EMPTY; 8],
-    };
-    Loaded {
-        status: Status::Failed(why),
-        image,
-    }
-}
-
-// Where reading goes on, 0 where it stopped.
-fn place(next: Next) -> usize
-    ensures { result ≡ place_of next }
-{
-    match next {
-        Next::At(i) => i,
-        Next::Refused(_) => 0,
-    }
-}
-
 // The image of the program that the words are, or why they are none.
 // Within its callers its images lie over theirs, which keeps the library within 64 KiB of stack.
 #[inline(always)]
-pub fn load(words: &[u32]) -> Loaded
+pub fn load(words: &[u32]) -> Result<Image, Refusal>
     ensures { result ≡ loaded (read words.now) }
 {
-    let ranges = read_ranges(words);
-    let next = ranges.next;
-    if let Next::Refused(why) = next {
-        return no_image(why);
-    }
-    let vars = ranges.count;
-    let start = read_counted(words, place(next), Kind::INIT, 8, vars);
-    let next = start.next;
-    if let Next::Refused(why) = next {
-        return no_image(why);
-    }
-    let preds = read_counted(words, place(next), Kind::PRED, 14, vars);
-    let next = preds.next;
-    if let Next::Refused(why) = next {
-        return no_image(why);
-    }
-    load_rest(words, place(next), ranges, start, preds)
-}
-
-fn ready(image: Image) -> Loaded
-    ensures { result ≡ record { status = Ready; image = image } }
-{
-    Loaded {
-        status: Status::Ready,
-        image,
-    }
+    let (ranges, at) = read_ranges(words)?;
+    let (start, next) = read_counted(words, at, Kind::INIT, 8, ranges.count)?;
+    let (preds, end) = read_counted(words, next, Kind::PRED, 14, ranges.count)?;
+    load_rest(words, end, &ranges, &start, &preds)
 }
 
 // The actions, the forbidden combinations and the end, after the ranges, the start rows and the predicates.
-fn load_rest(words: &[u32], at: usize, ranges: Ranges, start: Counted, preds: Counted) -> Loaded
-    requires { (ranges.count ≤ 8) × (preds.count ≤ 14) × (at ≤ length words.now) }
-    ensures { result ≡ rest_loaded ranges start preds (rest ranges.count preds.count (drop at words.now) at) at }
+fn load_rest(
+    words: &[u32],
+    at: usize,
+    ranges: &Ranges,
+    start: &Counted,
+    preds: &Counted,
+) -> Result<Image, Refusal>
+    requires { (ranges.now.count ≤ 8) × (preds.now.count ≤ 14) × (at ≤ length words.now) }
+    ensures { result ≡ rest_loaded ranges.now start.now preds.now (rest ranges.now.count preds.now.count (drop at words.now) at) at }
 {
-    let actions = read_actions(words, at, ranges.count);
-    let next = actions.next;
-    if let Next::Refused(why) = next {
-        return no_image(why);
-    }
-    let forbidden = read_forbidden(words, place(next), preds.count);
-    let next = forbidden.next;
-    if let Next::Refused(why) = next {
-        return no_image(why);
-    }
-    let next = read_end(words, place(next));
-    if let Next::Refused(why) = next {
-        return no_image(why);
-    }
-    let ranges_of = ranges.ranges;
-    let start_rows = start.rows;
-    let pred_rows = preds.rows;
-    let begin_at = actions.begin_at;
-    let shapes = actions.shapes;
-    let literals = forbidden.literals;
-    let image = Image {
-        vars: ranges.count,
-        ranges: ranges_of,
-        starts: start.count,
-        start: start_rows,
-        preds: preds.count,
-        pred: pred_rows,
-        actions: actions.count,
-        action_at: begin_at,
+    let (actions, next) = read_actions(words, at, ranges.count)?;
+    let (forbidden, end) = read_forbidden(words, next, preds.count)?;
+    read_end(words, end)?;
+    let Ranges {
+        ranges,
+        count: vars,
+    } = *ranges;
+    let Counted {
+        rows: start,
+        count: starts,
+    } = *start;
+    let Counted {
+        rows: pred,
+        count: preds,
+    } = *preds;
+    let Actions {
+        begin_at: action_at,
         shapes,
-        forbidden: forbidden.count,
+        count: actions,
+    } = actions;
+    let Forbidden {
         literals,
-    };
-    ready(image)
+        count: forbidden,
+    } = forbidden;
+    Ok(Image {
+        vars,
+        ranges,
+        starts,
+        start,
+        preds,
+        pred,
+        actions,
+        action_at,
+        shapes,
+        forbidden,
+        literals,
+    })
 }
 
 // Check: the five counts of the program that the words are, or why they are none.
-pub fn check(words: &[u32]) -> Checked
+pub fn check(words: &[u32]) -> Result<Counts, Refusal>
     ensures { result ≡ check words.now }
 {
-    let loaded = load(words);
-    let status = loaded.status;
-    let image = loaded.image;
-    match status {
-        Status::Failed(why) => Checked::Refused(why),
-        Status::Ready => Checked::Good(Counts {
-            variables: image.vars,
-            start_rows: image.starts,
-            predicates: image.preds,
-            actions: image.actions,
-            forbidden: image.forbidden,
-        }),
-    }
+    let image = load(words)?;
+    Ok(Counts {
+        variables: image.vars,
+        start_rows: image.starts,
+        predicates: image.preds,
+        actions: image.actions,
+        forbidden: image.forbidden,
+    })
 }
 
 // A part of the caller's list: where it begins, and how many words it has.
@@ -452,28 +277,21 @@ pub fn part_place(words: &[u32], k: usize) -> Part
     ensures place { result ≡ part_place words.now k }
     ensures part { StandsAt words.now result (action_part words.now k) }
 {
-    let loaded = load(words);
-    let image = loaded.image;
-    let count = image.actions;
-    if count <= k {
-        return Part {
-            start: 0,
-            length: 0,
-        };
+    let none = Part {
+        start: 0,
+        length: 0,
+    };
+    let Ok(image) = load(words) else {
+        return none;
+    };
+    if image.actions <= k {
+        return none;
     }
-    let at = image.action_at[k];
-    let vars = image.vars;
-    let read = actions::read_action(words, at, vars, true);
-    let next = read.next;
-    match next {
-        Next::Refused(_) => Part {
-            start: 0,
-            length: 0,
-        },
-        Next::At(end) => Part {
-            start: at,
-            length: end - at,
-        },
+    let start = image.action_at[k];
+    let (_, end) = actions::read_action(words, start, image.vars, true).unwrap();
+    Part {
+        start,
+        length: end - start,
     }
 }
 

@@ -1,15 +1,23 @@
 -- Laws of words, fields and two's complement.
-use mathlib.Core.Path.{◌≡◌, refl, ap, ◌∙◌}
-use mathlib.Core.Bool.{Bool, true, false}
+use mathlib.Core.Path.{◌≡◌, refl, sym, ap, ◌∙◌}
+use mathlib.Core.Bool.{Bool, true, false, not}
 use Prim.Native.Nat.{ℕ, suc, ◌+◌, ◌-◌, ◌^◌, ◌<◌, ◌≤◌}
 use native.Mathlib.Omega.{arith}
 use lib.Pow.{pow_pos}
-use lib.Dec.{ltb}
+use lib.Dec.{eqb, ltb}
 use lib.IntN.{ℤ, pos, negsuc, ◌-ℤ◌}
 use lib.Signed.{◌≤ℤ◌}
 use borrow.Author.Tests.{ltb-true, ltb-false, lt-ltb, le-ltb}
 use Rattle.integers.proofs.Int.{var, num, ◌⊕◌, ⊖, up, dn, le_in, le_out, equal}
+use Rattle.integers.proofs.Tests.{not-true, not-false}
 use Rattle.words.specs.Words.{kind_of, payload, word, signed, unsigned}
+
+-- what a test `k != m` of a word's kind says of the kind
+pub other-kind : (m : ℕ) {k n : ℕ} {r : Bool} → k ≡ n → r ≡ not (eqb k m) → r ≡ true → eqb n m ≡ false
+other-kind m e t p = rw (← e) (not-true _ (sym t ∙ p))
+
+pub that-kind : (m : ℕ) {k n : ℕ} {r : Bool} → k ≡ n → r ≡ not (eqb k m) → r ≡ false → eqb n m ≡ true
+that-kind m e t p = rw (← e) (not-false _ (sym t ∙ p))
 
 pub kind_word : (k p : ℕ) → p < 2 ^ 28 → kind_of (word k p) ≡ k
 kind_word k p h = omega arith

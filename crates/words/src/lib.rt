@@ -1,7 +1,7 @@
 // Words of 32 bits, their fields, and the refusals.
 #![tactic(auto)]
 
-ghost use Rattle.std.specs.Prelude.{◌≡◌, ◌+◌, ◌*◌, ◌<◌, ◌≤◌, ◌^◌, ◌/◌, ◌%◌, eqb};
+ghost use Rattle.std.specs.Prelude.{◌≡◌, ◌+◌, ◌*◌, ◌<◌, ◌≤◌, ◌^◌, ◌/◌, ◌%◌};
 ghost use Rattle.words.specs.Words.{bits, signed, signed_by, kind_of, payload, word, literals_of};
 ghost use Rattle.words.specs.Making.{literals};
 ghost use Rattle.words.specs.Refusals.{number, value};
@@ -19,7 +19,7 @@ pub const NODES: usize = 512;
 const PAYLOADS: u32 = 268435456;
 
 // The kind of a word, its bits 31 to 28.
-#[derive(Clone, Copy)]
+#[derive(Clone, Copy, PartialEq, Eq)]
 pub struct Kind(pub u32);
 
 impl Kind {
@@ -68,12 +68,6 @@ impl Kind {
         ensures { result ≡ word self.0 p }
     {
         self.0 * PAYLOADS + p
-    }
-
-    pub fn is(self, other: Kind) -> bool
-        ensures { result ≡ eqb self.0 other.0 }
-    {
-        self.0 == other.0
     }
 }
 
@@ -225,42 +219,44 @@ pub enum Refusal {
     Findings(usize),
 }
 
-// The refusal's number in the document's table.
-pub fn number_of(r: Refusal) -> u32
-    ensures { result ≡ number r }
-{
-    match r {
-        Refusal::Short(_) => 1,
-        Refusal::Word(_) => 2,
-        Refusal::Limit(_) => 3,
-        Refusal::Value(_) => 4,
-        Refusal::Lemma(_) => 5,
-        Refusal::Lemmas(_) => 6,
-        Refusal::Nodes => 7,
-        Refusal::Absent(_) => 8,
-        Refusal::Length(_) => 9,
-        Refusal::State(_) => 10,
-        Refusal::Sum(_) => 11,
-        Refusal::Findings(_) => 12,
+impl Refusal {
+    // The refusal's number in the document's table.
+    pub fn number(self) -> u32
+        ensures { result ≡ number self }
+    {
+        match self {
+            Refusal::Short(_) => 1,
+            Refusal::Word(_) => 2,
+            Refusal::Limit(_) => 3,
+            Refusal::Value(_) => 4,
+            Refusal::Lemma(_) => 5,
+            Refusal::Lemmas(_) => 6,
+            Refusal::Nodes => 7,
+            Refusal::Absent(_) => 8,
+            Refusal::Length(_) => 9,
+            Refusal::State(_) => 10,
+            Refusal::Sum(_) => 11,
+            Refusal::Findings(_) => 12,
+        }
     }
-}
 
-// The number that is returned with the refusal.
-pub fn value_of(r: Refusal) -> usize
-    ensures { result ≡ value r }
-{
-    match r {
-        Refusal::Short(n) => n,
-        Refusal::Word(n) => n,
-        Refusal::Limit(n) => n,
-        Refusal::Value(n) => n,
-        Refusal::Lemma(n) => n,
-        Refusal::Lemmas(n) => n,
-        Refusal::Nodes => NODES,
-        Refusal::Absent(n) => n,
-        Refusal::Length(n) => n,
-        Refusal::State(n) => n,
-        Refusal::Sum(n) => n,
-        Refusal::Findings(n) => n,
+    // The number that is returned with the refusal.
+    pub fn value(self) -> usize
+        ensures { result ≡ value self }
+    {
+        match self {
+            Refusal::Nodes => NODES,
+            Refusal::Short(n)
+            | Refusal::Word(n)
+            | Refusal::Limit(n)
+            | Refusal::Value(n)
+            | Refusal::Lemma(n)
+            | Refusal::Lemmas(n)
+            | Refusal::Absent(n)
+            | Refusal::Length(n)
+            | Refusal::State(n)
+            | Refusal::Sum(n)
+            | Refusal::Findings(n) => n,
+        }
     }
 }

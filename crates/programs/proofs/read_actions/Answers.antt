@@ -1,49 +1,40 @@
-use mathlib.Core.Path.{◌∙◌, sym}
+use mathlib.Core.Path.{sym, ◌∙◌}
 use Prim.Native.Nat.{◌+◌, ◌<◌}
 use native.Mathlib.Omega.{arith}
 use lib.ListN.{set}
+use borrow.Author.Rules.{rules}
+use Rattle.reader.proofs.Laws.{handed-back}
 use Rattle.words.specs.Words.{ACTION}
 use Rattle.grammar.specs.Grammar.{action}
 use Rattle.programs.specs.Images.{none_stored, actions_from}
 use Rattle.programs.proofs.ManyLaws.{Loop, begun}
 use Rattle.programs.proofs.Items.{actions-ended, actions-stopped, action-turned}
-use borrow.Author.Rules.{rules}
 use Rattle.programs.proofs.read_actions.Goals as goal
-use Rattle.programs.proofs.read_actions.Goals.{In-At}
+use Rattle.programs.proofs.read_actions.Goals.{In_ok-action}
 
-turn-of : (c : In-At) → let s = c.args in let l = c.loop-read in
-    (l.k < 16) × Loop ACTION (action s.vars) 16 actions_from s.words.now s.at none_stored (set l.begin_at l.k l.i, set l.shapes l.k (record { count = c.read_action-read.result.guards; set = c.read_action-read.result.set })) c.in-At.j (l.k + 1)
+turn-of : (c : In_ok-action) → let s = c.args in let l = c.loop-begin_at in let x = c.in_ok-action.action in
+    (l.k < 16) × Loop ACTION (action s.vars) 16 actions_from s.words.now s.at none_stored (set l.begin_at l.k l.i, set l.shapes l.k (record { count = x.guards; set = x.set })) c.in_ok-action.next (l.k + 1)
 turn-of c =
-    action-turned c.args.vars c.loop-read.invariant.0 c.args.words.now c.args.at c.loop-read.invariant.1 (sym c.begins.ensures ∙ c.loop-read-test.true) c.read_action-read.ensures c.in-At.is
+    action-turned c.args.vars c.loop-begin_at.invariant.0 c.args.words.now c.args.at c.loop-begin_at.invariant.1 (sym c.begins.ensures ∙ c.loop-begin_at-test.true) c.in_ok-action.ensures
 
-pub loop-read-init : goal.loop-read-init
-loop-read-init c = (search rules, begun ACTION (action _) 16 actions_from c.args.words.now c.args.at none_stored (search rules))
+pub loop-begin_at-init : goal.loop-begin_at-init
+loop-begin_at-init c = (search rules, begun ACTION (action _) 16 actions_from c.args.words.now c.args.at none_stored (search rules))
 
-pub returns-in-Refused : goal.returns-in-Refused
-returns-in-Refused c =
-    c.no_actions.ensures ∙ actions-stopped c.args.vars c.loop-read.invariant.0 c.args.words.now c.args.at c.loop-read.invariant.1 (sym c.begins.ensures ∙ c.loop-read-test.true) c.read_action-read.ensures c.in-Refused.is
-
-pub offset_bounds-begin_at-k : goal.offset_bounds-begin_at-k
-offset_bounds-begin_at-k c = let b = turn-of (goal.at.offset_bounds-begin_at-k c).In-At in omega arith
+pub returns-in_err-action : goal.returns-in_err-action
+returns-in_err-action c =
+    handed-back c.from_residual.result c.from_residual.ensures.1 (actions-stopped c.args.vars c.loop-begin_at.invariant.0 c.args.words.now c.args.at c.loop-begin_at.invariant.1 (sym c.begins.ensures ∙ c.loop-begin_at-test.true) c.in_err-action.ensures)
 
 pub bounds-begin_at-k : goal.bounds-begin_at-k
-bounds-begin_at-k c = (turn-of (goal.at.bounds-begin_at-k c).In-At).0
-
-pub offset_bounds-shapes-k : goal.offset_bounds-shapes-k
-offset_bounds-shapes-k c = let b = turn-of (goal.at.offset_bounds-shapes-k c).In-At in omega arith
+bounds-begin_at-k c = (turn-of (goal.at.bounds-begin_at-k c).In_ok-action).0
 
 pub bounds-shapes-k : goal.bounds-shapes-k
-bounds-shapes-k c = (turn-of (goal.at.bounds-shapes-k c).In-At).0
+bounds-shapes-k c = (turn-of (goal.at.bounds-shapes-k c).In_ok-action).0
 
-pub overflow_add-k : goal.overflow_add-k
-overflow_add-k c = let b = turn-of (goal.at.overflow_add-k c).In-At in omega arith
+pub loop-begin_at-smaller : goal.loop-begin_at-smaller
+loop-begin_at-smaller c = let b = turn-of (goal.at.loop-begin_at-smaller c).In_ok-action in omega arith
 
-pub loop-read-smaller : goal.loop-read-smaller
-loop-read-smaller c = let b = turn-of (goal.at.loop-read-smaller c).In-At in omega arith
-
-pub loop-read-preserved : goal.loop-read-preserved
-loop-read-preserved c = (c.loop-read.invariant.0, (turn-of (goal.at.loop-read-preserved c).In-At).1)
+pub loop-begin_at-preserved : goal.loop-begin_at-preserved
+loop-begin_at-preserved c = (c.loop-begin_at.invariant.0, (turn-of (goal.at.loop-begin_at-preserved c).In_ok-action).1)
 
 pub returns : goal.returns
-returns c =
-    actions-ended c.args.vars c.loop-read.invariant.0 c.args.words.now c.args.at c.loop-read.invariant.1 (sym c.begins.ensures ∙ c.loop-read-test.false)
+returns c = actions-ended c.args.vars c.loop-begin_at.invariant.0 c.args.words.now c.args.at c.loop-begin_at.invariant.1 (sym c.begins.ensures ∙ c.loop-begin_at-test.false)

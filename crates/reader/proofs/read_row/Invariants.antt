@@ -1,10 +1,6 @@
-use Prim.Native.Nat.{◌-◌, ◌≤◌}
-use lib.ListN.{length}
+use Prim.Native.Nat.{◌≤◌}
 use Rattle.reader.proofs.RowLoop.{RowLoop}
 use Rattle.reader.proofs.read_row.Given as goal
 
-abbrev pub invariant-loop-i : goal.invariant-loop-i
-invariant-loop-i l = (l.vars ≤ 8) × RowLoop l.part l.base l.vars l.kept l.coef l.i
-
-abbrev pub decreases-loop-i : goal.decreases-loop-i
-decreases-loop-i l = length l.part - l.i
+abbrev pub invariant-loop-w : goal.invariant-loop-w
+invariant-loop-w l = (l.vars ≤ 8) × RowLoop l.part l.base l.vars l.kept l.coef l.w-index

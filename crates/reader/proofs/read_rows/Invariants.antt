@@ -1,9 +1,9 @@
-use Prim.Native.Nat.{◌-◌, ◌≤◌}
+use mathlib.Core.List.{◌++◌}
+use Prim.Native.Nat.{◌≤◌}
+use lib.ListN.{drop}
+use Rattle.reader.specs.Results.{zero_rows}
 use Rattle.reader.proofs.RowsLoop.{RowsLoop}
 use Rattle.reader.proofs.read_rows.Given as goal
 
-abbrev pub invariant-loop-k : goal.invariant-loop-k
-invariant-loop-k l = (l.vars ≤ 8) × (l.n ≤ 14) × RowsLoop l.words l.at l.n l.vars l.rows l.i l.k
-
-abbrev pub decreases-loop-k : goal.decreases-loop-k
-decreases-loop-k l = l.n - l.k
+abbrev pub invariant-loop-slot : goal.invariant-loop-slot
+invariant-loop-slot l = (l.vars ≤ 8) × (l.n ≤ 14) × RowsLoop l.words l.at l.n l.vars (l.slot-items ++ drop l.n zero_rows) l.i l.slot-index

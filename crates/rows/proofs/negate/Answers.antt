@@ -1,57 +1,53 @@
--- `rows::negate` meets its contract. The invariant: the first i coefficients are negated.
-use mathlib.Core.Path.{◌≡◌, refl, sym, ◌∙◌}
-use mathlib.Core.List.{List, map}
-use Prim.Native.Nat.{ℕ}
+-- `rows::negate` meets its contract: every number is small enough for its negation to fit.
+use mathlib.Core.Path.{◌≡◌, refl, ◌∙◌}
+use mathlib.Core.List.{map}
 use native.Mathlib.Omega.{arith}
 use borrow.Author.Rules.{rules}
-use lib.ListN.{length, get_or, length-map, get_or-map}
+use lib.ListN.{length, get_or}
 use lib.IntN.{ℤ, pos, negsuc, neg_ℤ, ◌-ℤ◌, +ℤ_idl}
 use mir.Syntax.{w64}
-use mir.Val.{SFits}
+use mir.Val.{SFits, to_z, of_z}
 use mir.Facts.{to_z-of_z}
-use Rattle.integers.proofs.Int.{var, num, ◌⊕◌, ⊖, equal}
 use Rattle.integers.proofs.Laws.{Within, opposite, sum, literal, within-fits, within_weaken}
-use Rattle.integers.proofs.Fill.{filled_none, filled_next, filled-all}
-use Rattle.rows.specs.Bounds.{max_const}
+use Rattle.rows.specs.Bounds.{max_coef, max_const}
+use Rattle.rows.proofs.Arrays.{callable_at_items, mapped}
 use Rattle.rows.proofs.negate.Goals as goal
 
--- 0 - z and -1 - z fit where z is small
-less-fits : {z : ℤ} → Within max_const z → SFits w64 (pos 0 -ℤ z) × SFits w64 (negsuc 0 -ℤ z)
+-- z fits where it is small, and so do 0 - z and that less 1
+less-fits : {z : ℤ} → Within max_const z → SFits w64 z × SFits w64 (pos 0 -ℤ z) × SFits w64 (pos 0 -ℤ z -ℤ pos 1)
 less-fits h =
-    let k = opposite h in (
-      within-fits w64 (omega arith) (sum (literal {B = 0} {z = pos 0} tt tt) k),
-      within-fits w64 (omega arith) (sum (literal {B = 1} {z = negsuc 0} tt tt) k),
+    let k = sum (literal {B = 0} {z = pos 0} tt tt) (opposite h) in (
+      within-fits w64 (omega arith) h,
+      within-fits w64 (omega arith) k,
+      within-fits w64 (omega arith) (sum k (literal {B = 1} {z = negsuc 0} tt tt)),
     )
 
-getD-negated : (xs : List ℤ) (j : ℕ) → get_or (map neg_ℤ xs) j (pos 0) ≡ pos 0 -ℤ get_or xs j (pos 0)
-getD-negated xs j = get_or-map neg_ℤ xs j (pos 0) ∙ sym (+ℤ_idl (neg_ℤ (get_or xs j (pos 0))))
+small : {z : ℤ} → Within max_coef z → Within max_const z
+small h = within_weaken {A = max_coef} (omega arith) h
 
-pub loop-i-init : goal.loop-i-init
-loop-i-init c = (omega arith, filled_none refl)
+pub map-requires : goal.map-requires
+map-requires c = (
+  omega arith,
+  (
+    omega arith,
+    (
+      omega arith,
+      callable_at_items c.args.row.coef (pos 0) (λ x q e. refl) (λ k h _ _ _ _ _. let f = less-fits (small (c.requires.coefs k)) in rw (to_z-of_z f.0) f.1),
+    ),
+  ),
+)
 
-pub less-requires : goal.less-requires
-less-requires c =
-    let f : SFits w64 (get_or c.args.row.coef c.loop-i.i (pos 0)) = search rules in
-    rw (to_z-of_z f) (less-fits (within_weaken (omega arith) (c.requires.coefs c.loop-i.i))).0
-
-pub loop-i-preserved : goal.loop-i-preserved
-loop-i-preserved c =
-    let f : SFits w64 (get_or c.args.row.coef c.loop-i.i (pos 0)) = search rules in
-    let g : SFits w64 c.less.result = search rules in
-    (omega arith, filled_next c.loop-i.invariant.1 (search rules) (to_z-of_z g ∙ rw (to_z-of_z f) at c.less.ensures))
-
-pub less-constant-requires : goal.less-constant-requires
-less-constant-requires c =
-    let f : SFits w64 c.args.row.constant = search rules in
-    rw (to_z-of_z f) (search (less-fits c.requires.const))
+pub overflow_sub-result-2 : goal.overflow_sub-result-2
+overflow_sub-result-2 c = let f = less-fits c.requires.const in rw (to_z-of_z f.0, to_z-of_z f.1) f.2
 
 pub returns : goal.returns
 returns c =
     let xs = c.args.row.coef in
-    let k = c.args.row.constant in
-    let f : SFits w64 k = search rules in
-    let g : SFits w64 c.less-constant.result = search rules in
-    let lx : length xs ≡ 8 = search rules in
-    let m = filled-all c.loop-i.invariant.1 (search rules) (map neg_ℤ xs) (length-map xs neg_ℤ ∙ lx) (λ j p. getD-negated xs j) in
-    let e : negsuc 0 -ℤ k ≡ neg_ℤ k -ℤ pos 1 = equal (⊖ (num 1) ⊕ ⊖ (var k)) (⊖ (var k) ⊕ ⊖ (num 1)) (omega arith) in
-    rw (m, to_z-of_z g ∙ (rw (to_z-of_z f) at c.less-constant.ensures) ∙ e)
+    let f = less-fits c.requires.const in
+    let l : length xs ≡ 8 = search rules in
+    let same : c.map.result ≡ map neg_ℤ xs = mapped _ _ neg_ℤ xs c.map.result (pos 0) 8 (pos 0) l
+    (λ k h r q w.
+    let e : r ≡ to_z w64 (of_z w64 (pos 0 -ℤ to_z w64 (of_z w64 (get_or xs k (pos 0))))) = search rules in
+    let g = less-fits (small (c.requires.coefs k)) in
+    (refl, e ∙ rw (to_z-of_z g.0, to_z-of_z g.1) (+ℤ_idl (neg_ℤ (get_or xs k (pos 0)))))) c.map.ensures.items in
+    rw (same, to_z-of_z f.0, to_z-of_z f.1, to_z-of_z f.2, +ℤ_idl (neg_ℤ c.args.row.constant)) refl

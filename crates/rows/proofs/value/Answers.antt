@@ -16,16 +16,16 @@ use Rattle.rows.proofs.value.Goals.{After-products}
 
 -- the two numbers that are added, and their sum
 same : (c : After-products)
-    → let a = c.before.before.before.args in
+    → let a = c.before.args in
     to_z w64 (of_z w64 c.products.result) +ℤ to_z w64 (of_z w64 a.row.constant) ≡ row_value a.row a.state
 same c =
     let f : SFits w64 c.products.result = search rules in
-    let g : SFits w64 c.before.before.before.args.row.constant = search rules in
+    let g : SFits w64 c.before.args.row.constant = search rules in
     rw (to_z-of_z f, to_z-of_z g, c.products.ensures)
 
-value-fits : (c : After-products) → let a = c.before.before.before.args in SFits w64 (row_value a.row a.state)
+value-fits : (c : After-products) → let a = c.before.args in SFits w64 (row_value a.row a.state)
 value-fits c =
-    let s = c.before.before.before in
+    let s = c.before in
     let r = s.args.row in
     let l : length r.coef ≡ 8 = search rules in
     within-fits w64 (omega arith) (sum (dot-within r.coef s.args.state 8 max_coef max_state l s.requires.small.coefs s.requires.small_2) s.requires.small.const)
