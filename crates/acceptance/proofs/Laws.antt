@@ -6,7 +6,7 @@ use Prim.Native.Nat.{ℕ, ◌+◌, ◌*◌, ◌<◌, ◌≤◌}
 use native.Mathlib.Numerals.{add-one}
 use native.Mathlib.Omega.{arith}
 use lib.IntN.{ℤ, pos}
-use lib.ListN.{length, get_or, drop, drop_of_length-le}
+use lib.ListN.{length, get_or, drop, drop_of_length-le, length-append}
 use lib.Seq.{drop-cons}
 use Rattle.integers.proofs.Int.{up, dn}
 use Rattle.integers.proofs.Laws.{Within, within_out, zero-within}
@@ -20,7 +20,8 @@ use Rattle.sums.specs.Sums.{combine, const_row}
 use Rattle.sums.specs.Fits.{RowFits, Single, After}
 use Rattle.sums.proofs.Room.{room_plus, room-negated, room-const, row_fits, read_single}
 use Rattle.acceptance.specs.declared.Sum.{Sum}
-use Rattle.acceptance.specs.Adding.{mult_of, add_row, add_rows, Fine}
+use Rattle.acceptance.specs.Adding.{mult_of, add_row, add_rows, goal_rows, Fine}
+use Rattle.std.specs.Prelude.{Option, Some, None}
 
 -- ---- the numbers
 mult_within : (w : ℕ) → Within 65535 (mult_of w)
@@ -49,10 +50,8 @@ module _ (ws : List ℕ) (t : Sum) (r : Row) where
   pub goal-fits : Room 0 0 t.row → After r → RowFits t.row (mult_of (get_or ws t.used 0)) r
   goal-fits z h = row_fits (omega arith) (omega arith) (mult_within (get_or ws t.used 0)) z h
 
-  pub goal-fine : (b : Bool) → Room 0 0 t.row → After r → Fine 0 (add_rows ws t (row_if b r)).row
-  unfolding add_rows
-  goal-fine true z h = room_weaken (omega arith) (omega arith) (room_plus (mult_within (get_or ws t.used 0)) z h)
-  goal-fine false z h = room_weaken (omega arith) (omega arith) z
+  goal-fine : Room 0 0 t.row → After r → Fine 0 (add_row ws t r).row
+  goal-fine z h = room_weaken (omega arith) (omega arith) (room_plus (mult_within (get_or ws t.used 0)) z h)
 
 -- ---- some rows more
 rows_append : (ws : List ℕ) (t : Sum) (xs ys : List Row) → add_rows ws t (xs ++ ys) ≡ add_rows ws (add_rows ws t xs) ys
@@ -93,10 +92,12 @@ pub record RowTurn (ws : List ℕ) (t : Sum) (rs : List Row) (i : ℕ) (s : Sum)
   pub next : Added ws t rs (i + 1) (add_row ws s r)
 
 module _ (ws : List ℕ) (t : Sum) (rs : List Row) (i : ℕ) (s : Sum) (P : Added ws t rs i s) where
-  pub row-turn : (r : Row) → get_or rs i no_row ≡ r → Read r → i < length rs → i < 14 → t.used + length rs ≤ length ws → RowTurn ws t rs i s r
+  pub row-turn : ((j : ℕ) → Read (get_or rs j no_row)) → i < length rs → length rs ≤ 8 → t.used + length rs ≤ length ws → RowTurn ws t rs i s (get_or rs i no_row)
   unfolding add_rows
-  row-turn r e h l few room =
-      let here : drop i rs ≡ r ∷ drop (i + 1) rs = rw (add-one i, ← e) (drop-cons rs i no_row l) in
+  row-turn each l few room =
+      let r = get_or rs i no_row in
+      let h = each i in
+      let here : drop i rs ≡ r ∷ drop (i + 1) rs = rw (add-one i) (drop-cons rs i no_row l) in
       let used = ap (λ (x : Sum). x.used) P.rest in
       record {
         asked = (
@@ -109,9 +110,9 @@ module _ (ws : List ℕ) (t : Sum) (rs : List Row) (i : ℕ) (s : Sum) (P : Adde
         };
       }
 
-  pub added-all : length rs ≤ i → i ≤ 14 → (s ≡ add_rows ws t rs) × Fine 42 s.row
+  pub added-all : length rs ≤ i → i ≤ length rs → length rs ≤ 8 → (s ≡ add_rows ws t rs) × Fine 42 s.row
   unfolding add_rows
-  added-all l h = (rw (drop_of_length-le rs {i = i} l) at P.rest, fine_weaken (28 + i) 42 (omega arith) P.fine)
+  added-all l h few = (rw (drop_of_length-le rs {i = i} l) at P.rest, fine_weaken (28 + i) 42 (omega arith) P.fine)
 
 -- ---- the loop over predicates: the literals of those below p are added
 pub record Premised (ws : List ℕ) (t : Sum) (ps : List Row) (set p : ℕ) (s : Sum) : Type 0 where
@@ -135,13 +136,16 @@ module _ (ws : List ℕ) (t : Sum) (ps : List Row) (set p : ℕ) (s : Sum) (P : 
       let these : premise_rows p (drop p ps) set ≡ xs ++ (ys ++ zs) = rw (add-one p, ← e, drop-cons ps p no_row l) refl in
       sym (rows_append ws (add_rows ws s xs) ys zs) ∙ sym (rows_append ws s xs (ys ++ zs)) ∙ rw these at P.rest
 
-  pub literal-turn : (r : Row) → get_or ps p no_row ≡ r → Read r → p < length ps → p < 14 → t.used + length (premise_rows 0 ps set) ≤ length ws → LiteralTurn ws t ps set p s r
-  literal-turn r e h l few room =
+  pub literal-turn : ((j : ℕ) → Read (get_or ps j no_row)) → p < length ps → length ps ≤ 14 → t.used + length (premise_rows 0 ps set) ≤ length ws
+      → LiteralTurn ws t ps set p s (get_or ps p no_row)
+  literal-turn each l few room =
+      let r = get_or ps p no_row in
+      let h = each p in
       let xs = row_if (has p set) r in
       let ys = row_if (has (14 + p) set) (negated r) in
       let zs = premise_rows (p + 1) (drop (p + 1) ps) set in
       let half = add_rows ws s xs in
-      let more = two-more r e l in
+      let more = two-more r refl l in
       let used = ap (λ (x : Sum). x.used) more in
       let a = rows_used ws s xs in
       let b = rows_used ws half ys in
@@ -155,24 +159,46 @@ module _ (ws : List ℕ) (t : Sum) (ps : List Row) (set p : ℕ) (s : Sum) (P : 
         next = record { rest = more; fine = fine_weaken (2 * p + 1 + 1) (2 * (p + 1)) (omega arith) k };
       }
 
-  pub premised-all : length ps ≤ p → p ≤ 14 → (s ≡ add_rows ws t (premise_rows 0 ps set)) × Fine 28 s.row
+  pub premised-all : length ps ≤ p → p ≤ length ps → length ps ≤ 14 → (s ≡ add_rows ws t (premise_rows 0 ps set)) × Fine 28 s.row
   unfolding add_rows premise_rows
-  premised-all l h = (rw (drop_of_length-le ps {i = p} l) at P.rest, fine_weaken (2 * p) 28 (omega arith) P.fine)
+  premised-all l h few = (rw (drop_of_length-le ps {i = p} l) at P.rest, fine_weaken (2 * p) 28 (omega arith) P.fine)
 
 -- ---- the three parts of a lemma's sum, one behind the other
-abbrev pub nothing : ℕ → Sum
-nothing at = record { row = const_row (pos 0); used = at }
+abbrev pub nothing : Sum
+nothing = record { row = const_row (pos 0); used = 0 }
 
 pub nothing-room : Room 0 0 (const_row (pos 0))
 nothing-room = room-const (pos 0) (zero-within 0)
 
-pub used-then : (ws : List ℕ) (t : Sum) (rs : List Row) {s : Sum} → s ≡ add_rows ws t rs → s.used ≡ t.used + length rs
+-- the goal's row is added, if there is a goal
+pub record GoalAdded (ws : List ℕ) (goal : Option Row) (s : Sum) : Type 0 where
+  pub is : s ≡ add_rows ws nothing (goal_rows goal)
+  pub fine : Fine 0 s.row
+
+pub goal-added : (ws : List ℕ) (q : Row) → After q → GoalAdded ws (Some q) (add_row ws nothing q)
+unfolding add_rows
+goal-added ws q h = record { is = refl; fine = goal-fine ws nothing q nothing-room h }
+
+pub goal-none : (ws : List ℕ) → GoalAdded ws None nothing
+unfolding add_rows
+goal-none ws = record { is = refl; fine = room_weaken (omega arith) (omega arith) nothing-room }
+
+used-then : (ws : List ℕ) (t : Sum) (rs : List Row) {s : Sum} → s ≡ add_rows ws t rs → s.used ≡ t.used + length rs
 used-then ws t rs e = ap (λ (x : Sum). x.used) e ∙ rows_used ws t rs
 
-pub whole_sum : (ws : List ℕ) (at : ℕ) (xs ys zs : List Row) {t u s : Sum} → at + length (xs ++ (ys ++ zs)) ≤ length ws
-    → t ≡ add_rows ws (nothing at) xs → u ≡ add_rows ws t ys → s ≡ add_rows ws u zs
-    → s.row ≡ combine (const_row (pos 0)) (map mult_of (drop at ws)) (xs ++ (ys ++ zs))
-whole_sum ws at xs ys zs {t} {u} {s} h et eu es =
-    let e : s ≡ add_rows ws (nothing at) (xs ++ (ys ++ zs)) =
-    es ∙ rw (eu, et) (sym (rows_append ws (nothing at) xs (ys ++ zs) ∙ rows_append ws (add_rows ws (nothing at) xs) ys zs)) in
-    ap (λ (x : Sum). x.row) e ∙ rows-combine ws (nothing at) (xs ++ (ys ++ zs)) h
+module _ (ws : List ℕ) (xs ys zs : List Row) (room : length (xs ++ (ys ++ zs)) ≤ length ws) {t : Sum} (et : t ≡ add_rows ws nothing xs) where
+  parts : (length (xs ++ (ys ++ zs)) ≡ length xs + (length ys + length zs)) × (t.used ≡ length xs)
+  parts = (length-append xs (ys ++ zs) ∙ ap (λ (n : ℕ). length xs + n) (length-append ys zs), omega (arith, used-then ws nothing xs et))
+
+  pub second-room : t.used + length ys ≤ length ws
+  second-room = omega (arith, parts.0, parts.1)
+
+  module _ {u : Sum} (eu : u ≡ add_rows ws t ys) where
+    pub third-room : u.used + length zs ≤ length ws
+    third-room = omega (arith, parts.0, parts.1, used-then ws t ys eu)
+
+    pub whole_sum : {s : Sum} → s ≡ add_rows ws u zs → s.row ≡ combine (const_row (pos 0)) (map mult_of ws) (xs ++ (ys ++ zs))
+    whole_sum {s} es =
+        let e : s ≡ add_rows ws nothing (xs ++ (ys ++ zs)) =
+        es ∙ rw (eu, et) (sym (rows_append ws nothing xs (ys ++ zs) ∙ rows_append ws (add_rows ws nothing xs) ys zs)) in
+        ap (λ (x : Sum). x.row) e ∙ rows-combine ws nothing (xs ++ (ys ++ zs)) (omega arith)

@@ -3,13 +3,14 @@
 -- mult_of    — the number in a MULT word
 -- add_row    — a row more, times the number in the next MULT word
 -- add_rows   — some rows more
--- lemma_rows — the goal's row if there is a goal, the premises' rows and the source's
+-- goal_rows  — the negated goal's row if there is a goal
+-- lemma_rows — that, the premises' rows and the source's
 -- Fine       — how large the sum's numbers are with the goal's row and k rows more
-use Rattle.std.specs.Prelude.{Bool, List, [], ◌∷◌, ◌++◌, ℕ, ◌+◌, ◌*◌, ◌%◌, ℤ, pos, get_or}
+use Rattle.std.specs.Prelude.{Option, Some, None, List, [], ◌∷◌, ◌++◌, ℕ, ◌+◌, ◌*◌, ◌%◌, ℤ, pos, get_or}
 use Rattle.rows.specs.declared.Row.{Row}
 use Rattle.sums.specs.Sums.{add_scaled}
 use Rattle.rows.specs.Bounds.{Room}
-use Rattle.runs.specs.Values.{row_if, premise_rows}
+use Rattle.runs.specs.Values.{premise_rows}
 use Rattle.acceptance.specs.declared.Sum.{Sum}
 
 abbrev pub mult_of : ℕ → ℤ
@@ -22,8 +23,12 @@ unfoldable pub add_rows : List ℕ → Sum → List Row → Sum
 add_rows ws t [] = t
 add_rows ws t (r ∷ rs) = add_rows ws (add_row ws t r) rs
 
-abbrev pub lemma_rows : Bool → Row → List Row → ℕ → List Row → List Row
-lemma_rows goal q preds set rows = row_if goal q ++ (premise_rows 0 preds set ++ rows)
+abbrev pub goal_rows : Option Row → List Row
+goal_rows None = []
+goal_rows (Some q) = q ∷ []
+
+abbrev pub lemma_rows : Option Row → List Row → ℕ → List Row → List Row
+lemma_rows goal preds set rows = goal_rows goal ++ (premise_rows 0 preds set ++ rows)
 
 -- every row times at most 65,535
 abbrev pub Fine : ℕ → Row → Type 0

@@ -9,6 +9,7 @@ use lib.Dec.{ltb}
 use lib.IntN.{ℤ}
 use lib.ListN.{length}
 use borrow.Author.Tests.{ltb-false}
+use Rattle.std.specs.Prelude.{Ok}
 use Rattle.rows.specs.declared.Row.{Row}
 use Rattle.rows.specs.declared.Range.{Range}
 use Rattle.grammar.specs.Reading.{Read, got, refused}
@@ -75,10 +76,10 @@ goes_on_lem p (k ∷ ks) s h = pick (enabled (action_of p k) s) (rack_state (act
     pick false t moved stayed = (stayed.0, (h, stayed.1))
 
 -- the calls: where Step does not run off, the rack's step answers and leaves the same
-pub same_call : (ws : List ℕ) (k : ℕ) (s : List ℤ) → ((v : ℕ) → (step_call ws k s).answer ≡ AnswerRunsOff v → ⊥) → rack_call ws k s ≡ step_call ws k s
+pub same_call : (ws : List ℕ) (k : ℕ) (s : List ℤ) → ((v : ℕ) → (step_call ws k s).answer ≡ Ok (AnswerRunsOff v) → ⊥) → rack_call ws k s ≡ step_call ws k s
 same_call ws k s never = go (ready (read ws) k s) refl never
   where
-    go : (m : Read Program) → ready (read ws) k s ≡ m → ((v : ℕ) → (answered step m k s).answer ≡ AnswerRunsOff v → ⊥) → answered rack_step m k s ≡ answered step m k s
+    go : (m : Read Program) → ready (read ws) k s ≡ m → ((v : ℕ) → (answered step m k s).answer ≡ Ok (AnswerRunsOff v) → ⊥) → answered rack_step m k s ≡ answered step m k s
     go (refused r) e n = refl
     go (got p us i) e n =
         let m = ready-known (read ws) k s e in
@@ -89,14 +90,14 @@ pub rack_guarded : (m : Read Program) (k : ℕ) (s : List ℤ) → Guarded m k s
 rack_guarded m k s = guarded rack_step (λ p. Moved (rack_state (action_of p k) s)) k s (λ p. refl) (λ p e. let z : ◌≡◌ {A = ℕ} 0 1 = cc e in absurd (omega arith)) m
 
 -- the rack's step answers moved or not enabled, or refuses
-pub never_runs_off : (ws : List ℕ) (k : ℕ) (s : List ℤ) (v : ℕ) → (rack_call ws k s).answer ≡ AnswerRunsOff v → ⊥
+pub never_runs_off : (ws : List ℕ) (k : ℕ) (s : List ℤ) (v : ℕ) → (rack_call ws k s).answer ≡ Ok (AnswerRunsOff v) → ⊥
 never_runs_off ws k s v e = go (ready (read ws) k s) e
   where
-    tried : (guards : List Row) (b : Bool) (t : List ℤ) → (outcome guards (cond b (Moved t) NotEnabled) s).answer ≡ AnswerRunsOff v → ⊥
+    tried : (guards : List Row) (b : Bool) (t : List ℤ) → (outcome guards (cond b (Moved t) NotEnabled) s).answer ≡ Ok (AnswerRunsOff v) → ⊥
     tried guards true t f = let z : ◌≡◌ {A = ℕ} 0 1 = cc f in absurd (omega arith)
     tried guards false t f = let z : ◌≡◌ {A = ℕ} 0 1 = cc f in absurd (omega arith)
 
-    go : (m : Read Program) → (answered rack_step m k s).answer ≡ AnswerRunsOff v → ⊥
+    go : (m : Read Program) → (answered rack_step m k s).answer ≡ Ok (AnswerRunsOff v) → ⊥
     go (refused r) f = let z : ◌≡◌ {A = ℕ} 0 1 = cc f in absurd (omega arith)
     go (got p us i) f = tried (action_of p k).guards (enabled (action_of p k) s) (rack_state (action_of p k) s) f
 
@@ -106,22 +107,22 @@ module _ (ws : List ℕ) (p : Program) {us : List ℕ} {i : ℕ} (q : read ws �
   abbrev Harmless : List ℤ → Type 0
   Harmless s = (ks : List ℕ) → Each (λ k. k < length p.actions) ks → (run p ks s).ending ≡ Finished
 
-  step-off : (k : ℕ) (s : List ℤ) (o : Outcome) (v : ℕ) → step p k s ≡ o → (outcome (action_of p k).guards o s).answer ≡ AnswerRunsOff v → (run p (k ∷ []) s).ending ≡ RanOff
+  step-off : (k : ℕ) (s : List ℤ) (o : Outcome) (v : ℕ) → step p k s ≡ o → (outcome (action_of p k).guards o s).answer ≡ Ok (AnswerRunsOff v) → (run p (k ∷ []) s).ending ≡ RanOff
   unfolding run
   step-off k s (Moved t) v e f = let z : ◌≡◌ {A = ℕ} 0 1 = cc f in absurd (omega arith)
   step-off k s NotEnabled v e f = let z : ◌≡◌ {A = ℕ} 0 1 = cc f in absurd (omega arith)
   step-off k s (RunsOff w) v e f = rw e refl
 
-  never-off : (s : List ℤ) → Harmless s → (k v : ℕ) → (step_call ws k s).answer ≡ AnswerRunsOff v → ⊥
+  never-off : (s : List ℤ) → Harmless s → (k v : ℕ) → (step_call ws k s).answer ≡ Ok (AnswerRunsOff v) → ⊥
   never-off s h k v e = go (ready (read ws) k s) refl e
     where
-      go : (m : Read Program) → ready (read ws) k s ≡ m → (answered step m k s).answer ≡ AnswerRunsOff v → ⊥
+      go : (m : Read Program) → ready (read ws) k s ≡ m → (answered step m k s).answer ≡ Ok (AnswerRunsOff v) → ⊥
       go (refused r) f g = let z : ◌≡◌ {A = ℕ} 0 1 = cc g in absurd (omega arith)
       go (got p' us' i') f g =
           let m = ready-known (read ws) k s f in
           let same : p' ≡ p = cc (m.is_read, q) in
           let known = subst (λ (x : Program). k < length x.actions) same m.known in
-          let off = step-off k s (step p k s) v refl (subst (λ (x : Program). (outcome (action_of x k).guards (step x k s) s).answer ≡ AnswerRunsOff v) same g) in
+          let off = step-off k s (step p k s) v refl (subst (λ (x : Program). (outcome (action_of x k).guards (step x k s) s).answer ≡ Ok (AnswerRunsOff v)) same g) in
           let z : ◌≡◌ {A = ℕ} 0 1 = cc (sym off ∙ h (k ∷ []) (known, tt)) in
           absurd (omega arith)
 

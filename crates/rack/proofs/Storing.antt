@@ -8,6 +8,7 @@ use lib.IntN.{ℤ, pos}
 use lib.ListN.{length, get_or, take}
 use mir.Syntax.{w32}
 use mir.Val.{SFits}
+use Rattle.std.specs.Prelude.{Ok}
 use Rattle.rows.specs.declared.Row.{Row}
 use Rattle.rows.specs.Rows.{row_value}
 use Rattle.actions.specs.NewRows.{keep_rows, assigned}
@@ -32,7 +33,7 @@ rows-kept zero rs x = refl
 rows-kept (suc n) [] x = refl
 rows-kept (suc n) (r ∷ rs) x = rw (wrapped_exact r x, rows-kept n rs x) refl
 
-decided : (guards : List Row) (on : Bool) (s t : List ℤ) → cond on (record { answer = Moved; state = t }) (stay (NotEnabled (first_failing guards s)) s)
+decided : (guards : List Row) (on : Bool) (s t : List ℤ) → cond on (record { answer = Ok Moved; state = t }) (stay (Ok (NotEnabled (first_failing guards s))) s)
     ≡ outcome guards (cond on (Outcome.Moved t) Outcome.NotEnabled) s
 decided guards true s t = refl
 decided guards false s t = refl
@@ -45,9 +46,9 @@ stored_is ws k s t =
     let l = (at ws k s t).inside.long in
     let few = good.ranges.few in
     let ok = action-ok ws k s t in
-    let e = rows-kept (length s) (assigned keep_rows a.sets) (padded s) ∙ ap (map kept) (new-state p t.rest t.index k s l few ok)
+    let e = rows-kept (length s) (assigned keep_rows a.sets) (padded s) ∙ ap (map kept) (new-state p k s l few ok)
     ∙ sym (state-kept a s (inside-held p good s (at ws k s t).inside)) in
-    rw (t.is-begun, t.is-ready, same-guards p t.rest t.index k s l few ok, none-fails a.guards s, e) (decided a.guards (enabled a s) s (rack_state a s))
+    rw (t.is-begun, t.is-ready, same-guards p k s l few ok, none-fails a.guards s, e) (decided a.guards (enabled a s) s (rack_state a s))
 
 pub all_fit : (rs : List Row) (held : List ℕ) (v : ℕ) → SFits w32 (get_or (map (λ r. wrapped_value r held) rs) v (pos 0))
 all_fit [] held v = record { sfits = omega arith }

@@ -8,7 +8,8 @@ use lib.Dec.{leb, eqb, ltb}
 use lib.IntN.{ℤ, pos}
 use lib.ListN.{length, get_or, take, drop, replicate}
 use lib.Seq.{sets, take_at}
-use borrow.Author.Tests.{lt-ltb, le-ltb, le-leb, lt-leb, eq-eqb, ne_eqb, ltb-false, leb-false, eqb-true}
+use borrow.Author.Tests.{lt-ltb, le-ltb, lt-leb, eq-eqb, ltb-false, leb-false, eqb-true}
+use Rattle.std.specs.Prelude.{Result, Ok, Err}
 use Rattle.integers.proofs.Tests.{not-false}
 use Rattle.words.specs.declared.Refusal.{Refusal}
 use Rattle.words.specs.declared.Refusal.TheVariants.{Absent, Length, State}
@@ -20,27 +21,21 @@ use Rattle.grammar.specs.Grammar.{action}
 use Rattle.grammar.specs.Encoding.{encode_action}
 use Rattle.grammar.specs.WellFormed.{Each, ActionOk, WellFormed}
 use Rattle.grammar.proofs.ProgramLaws.{accepted}
-use Rattle.actions.specs.declared.ActionRead.{ActionRead}
-use Rattle.actions.specs.Results.{action_read}
+use Rattle.actions.specs.declared.Action.{Action as ActionRead}
+use Rattle.actions.specs.Results.{action_image, action_read}
 use Rattle.programs.specs.declared.Image.{Image}
-use Rattle.programs.specs.declared.Loaded.{Loaded}
-use Rattle.programs.specs.declared.Status.TheVariants.{Ready, Failed}
 use Rattle.programs.specs.Calls.{read}
 use Rattle.programs.specs.Images.{image_of, loaded, zero_ranges}
 use Rattle.programs.specs.Places.{places, first_action}
 use Rattle.programs.proofs.Places.{action_k, stored_at, length-places}
 use Rattle.runs.specs.declared.Begun.{Begun}
-use Rattle.runs.specs.declared.Stepped.TheVariants.{Refused}
-use Rattle.runs.specs.Runs.{Outcome, Inside, lowest_off, action_of}
-use Rattle.runs.specs.Calls.{Stepping, stay, ready, answered, step_call}
-use Rattle.runs.specs.Values.{padded, not_begun, begun, Good, tried}
+use Rattle.runs.specs.Runs.{Inside, lowest_off, action_of}
+use Rattle.runs.specs.Calls.{Stepping, ready, step_call}
+use Rattle.runs.specs.Values.{padded, begun_on, begun, Good, tried}
+use Rattle.runs.proofs.Loops.{lowest-front}
 use Rattle.runs.proofs.Sizes.{front_stored, guards-read, new-rows-read, read_small, ranges-small, state-small}
 use Rattle.runs.proofs.Trying.{lowest-most}
 use Rattle.runs.proofs.Tried.{tried-is}
-
-pub begun-refused : (m : Read Program) (k : ℕ) (s : List ℤ) {x : Loaded} {r : Refusal} → x ≡ loaded m → x.status ≡ Failed r → not_begun r ≡ begun (ready m k s) k s
-begun-refused (got p us i) k s e h = let z : ◌≡◌ {A = ℕ} 0 1 = cc (ap (λ (y : Loaded). y.status) e) in absurd (omega arith)
-begun-refused (refused q) k s e h = ap not_begun (cc (ap (λ (y : Loaded). y.status) e))
 
 -- the program that was loaded
 pub record Held (ws : List ℕ) (g : Image) : Type 0 where
@@ -50,12 +45,12 @@ pub record Held (ws : List ℕ) (g : Image) : Type 0 where
   pub is_read : read ws ≡ got program rest index
   pub image_is : g ≡ image_of program
 
-pub held : (ws : List ℕ) {x : Loaded} → x ≡ loaded (read ws) → x.status ≡ Ready → Held ws x.image
-held ws {x} e h = go (read ws) refl e
+pub held : (ws : List ℕ) {g : Image} → Ok g ≡ loaded (read ws) → Held ws g
+held ws {g} e = go (read ws) refl e
   where
-    go : (m : Read Program) → read ws ≡ m → x ≡ loaded m → Held ws x.image
-    go (got p us i) q f = record { program = p; rest = us; index = i; is_read = q; image_is = ap (λ (y : Loaded). y.image) f }
-    go (refused r) q f = let z : ◌≡◌ {A = ℕ} 0 1 = cc (ap (λ (y : Loaded). y.status) f, h) in absurd (omega arith)
+    go : (m : Read Program) → read ws ≡ m → Ok g ≡ loaded m → Held ws g
+    go (got p us i) q f = record { program = p; rest = us; index = i; is_read = q; image_is = cc f }
+    go (refused r) q f = let z : ◌≡◌ {A = ℕ} 0 1 = cc f in absurd (omega arith)
 
 pub each_at : (xs : List Action) (n j : ℕ) → Each (ActionOk n) xs → j < length xs → ActionOk n (get_or xs j (record { guards = []; sets = [] }))
 each_at [] n j e h = absurd (omega arith)
@@ -66,16 +61,10 @@ module _ (ws : List ℕ) (p : Program) {us : List ℕ} {i : ℕ} (q : read ws �
   few : length p.ranges ≤ 8
   few = (accepted ws p us i q).good.ranges.few
 
-  absent : length p.actions ≤ k → ready (read ws) k s ≡ refused (Absent k)
-  absent h = rw (q, le-leb (length p.actions) k h) refl
-
   module _ (known : k < length p.actions) where
-    wrong-length : (length s ≡ length p.ranges → ⊥) → ready (read ws) k s ≡ refused (Length (length s))
-    wrong-length h = rw (q, lt-leb (length p.actions) k known, ne_eqb (length s) (length p.ranges) h) refl
-
     module _ (l : length s ≡ length p.ranges) where
-      same-off : lowest_off (take (length p.ranges) (sets zero_ranges 0 p.ranges)) (take (length p.ranges) (padded s)) ≡ lowest_off p.ranges s
-      same-off = rw (front_stored 8 zero_range p.ranges few, take_at s (replicate (8 - length s) (pos 0)) (length p.ranges) l) refl
+      same-off : lowest_off (take (length p.ranges) (sets zero_ranges 0 p.ranges)) (padded s) ≡ lowest_off p.ranges s
+      same-off = sym (lowest-front (length p.ranges) (sets zero_ranges 0 p.ranges) (padded s)) ∙ rw (front_stored 8 zero_range p.ranges few, take_at s (replicate (8 - length s) (pos 0)) (length p.ranges) l) refl
 
       off-range : lowest_off p.ranges s < length p.ranges → ready (read ws) k s ≡ refused (State (lowest_off p.ranges s))
       off-range h = rw (q, lt-leb (length p.actions) k known, eq-eqb (length s) (length p.ranges) l, lt-ltb (lowest_off p.ranges s) (length p.ranges) h) refl
@@ -110,45 +99,37 @@ module _ (ws : List ℕ) {g : Image} (h : Held ws g) (k : ℕ) (s : List ℤ) wh
   pub vars-few : g.vars ≤ 8
   vars-few = counts.2
 
-  from : {m : Read Program} {b : Begun} → ready (read ws) k s ≡ m → b ≡ begun m k s → b ≡ begun (ready (read ws) k s) k s
+  from : {m : Read Program} {b : Result Begun Refusal} → ready (read ws) k s ≡ m → b ≡ begun m k s → b ≡ begun (ready (read ws) k s) k s
   from e f = f ∙ ap (λ (m : Read Program). begun m k s) (sym e)
-
-  pub begun-absent : g.actions ≤ k → not_begun (Absent k) ≡ begun (ready (read ws) k s) k s
-  begun-absent e = from (absent ws p h.is_read k s (omega (arith, counts.0))) refl
 
   module _ (known : k < g.actions) where
     known_in : k < length p.actions
     known_in = omega (arith, counts.0)
 
-    pub begun-length : (length s ≡ g.vars → ⊥) → not_begun (Length (length s)) ≡ begun (ready (read ws) k s) k s
-    begun-length e = from (wrong-length ws p h.is_read k s known_in (λ l. e (l ∙ sym counts.1))) refl
-
-    module _ (l : length s ≡ g.vars) {off : ℕ} (o : off ≡ lowest_off (take g.vars g.ranges) (take g.vars (padded s))) where
+    module _ (l : length s ≡ g.vars) {off : ℕ} (o : off ≡ lowest_off (take g.vars g.ranges) (padded s)) where
       long : length s ≡ length p.ranges
       long = l ∙ counts.1
 
       off-is : off ≡ lowest_off p.ranges s
-      off-is = o ∙ (λ i. lowest_off (take (counts.1 i) (h.image_is i).ranges) (take (counts.1 i) (padded s))) ∙ same-off ws p h.is_read k s known_in long
+      off-is = o ∙ (λ i. lowest_off (take (counts.1 i) (h.image_is i).ranges) (padded s)) ∙ same-off ws p h.is_read k s known_in long
 
-      pub begun-off : off < g.vars → not_begun (State off) ≡ begun (ready (read ws) k s) k s
-      begun-off e = from (off-range ws p h.is_read k s known_in long (omega (arith, off-is, counts.1))) (ap (λ (v : ℕ). not_begun (State v)) off-is)
+      pub begun-off : off < g.vars → Err (State off) ≡ begun (ready (read ws) k s) k s
+      begun-off e = from (off-range ws p h.is_read k s known_in long (omega (arith, off-is, counts.1))) (ap (λ (v : ℕ). Err (State v)) off-is)
 
-      pub begun-there : g.vars ≤ off → {y : ActionRead} → y ≡ action_read (action g.vars true (drop (get_or g.action_at k 0) ws) (get_or g.action_at k 0))
-          → record { status = Ready; ranges = g.ranges; old = padded s; guards = y.guards; guard = y.guard; rows = y.rows } ≡ begun (ready (read ws) k s) k s
+      pub begun-there : g.vars ≤ off → {y : ActionRead × ℕ} → Ok y ≡ action_read (action g.vars true (drop (get_or g.action_at k 0) ws) (get_or g.action_at k 0))
+          → Ok (record { ranges = g.ranges; old = padded s; guards = y.0.guards; guard = y.0.guard; rows = y.0.rows }) ≡ begun (ready (read ws) k s) k s
       begun-there e {y} f =
           let same = h.image_is in
           let (rest, end, t) = read-there ws p h.is_read k s known_in in
-          let f' = f ∙ (λ i. action_read (action (same i).vars true (drop (get_or (same i).action_at k 0) ws) (get_or (same i).action_at k 0))) ∙ ap action_read t in
+          let there : action g.vars true (drop (get_or g.action_at k 0) ws) (get_or g.action_at k 0) ≡ got (action_of p k) rest end
+          = (λ i. action (same i).vars true (drop (get_or (same i).action_at k 0) ws) (get_or (same i).action_at k 0)) ∙ t in
+          let is : y ≡ (action_image (action_of p k), end) = cc (rw there at f) in
           from (on_range_lem ws p h.is_read k s known_in long (omega (arith, off-is, counts.1)))
-          (λ i. record { status = Ready; ranges = (same i).ranges; old = padded s; guards = (f' i).guards; guard = (f' i).guard; rows = (f' i).rows })
+          (λ i. Ok (record { ranges = (same i).ranges; old = padded s; guards = (is i).0.guards; guard = (is i).0.guard; rows = (is i).0.rows }))
 
 -- ---- with what was begun
 pub both : {a b : Stepping} → a ≡ b → (a.answer ≡ b.answer) × (a.state ≡ b.state)
 both e = (ap (λ (y : Stepping). y.answer) e, ap (λ (y : Stepping). y.state) e)
-
-pub answered-refused : (f : Program → ℕ → List ℤ → Outcome) (m : Read Program) (k : ℕ) (s : List ℤ) {b : Begun} {r : Refusal} → b ≡ begun m k s → b.status ≡ Failed r → stay (Refused r) s ≡ answered f m k s
-answered-refused f (got p us i) k s e h = let z : ◌≡◌ {A = ℕ} 0 1 = cc (ap (λ (y : Begun). y.status) e) in absurd (omega arith)
-answered-refused f (refused q) k s e h = ap (λ (r : Refusal). stay (Refused r) s) (cc (ap (λ (y : Begun). y.status) e))
 
 passed : (c : Bool) (r : Refusal) (m : Read Program) {p : Program} {us : List ℕ} {i : ℕ} → cond c (refused r) m ≡ got p us i → (c ≡ false) × (m ≡ got p us i)
 passed true r m e = let z : ◌≡◌ {A = ℕ} 0 1 = cc e in absurd (omega arith)
@@ -185,14 +166,14 @@ pub record Trial (ws : List ℕ) (k : ℕ) (s : List ℤ) (b : Begun) : Type 0 w
   pub rest : List ℕ
   pub index : ℕ
   pub is-ready : ready (read ws) k s ≡ got program rest index
-  pub is-begun : b ≡ begun (got program rest index) k s
+  pub is-begun : b ≡ begun_on program k s
 
-pub trial : (ws : List ℕ) (k : ℕ) (s : List ℤ) {b : Begun} → b ≡ begun (ready (read ws) k s) k s → b.status ≡ Ready → Trial ws k s b
-trial ws k s {b} e h = go (ready (read ws) k s) refl e
+pub trial : (ws : List ℕ) (k : ℕ) (s : List ℤ) {b : Begun} → Ok b ≡ begun (ready (read ws) k s) k s → Trial ws k s b
+trial ws k s {b} e = go (ready (read ws) k s) refl e
   where
-    go : (m : Read Program) → ready (read ws) k s ≡ m → b ≡ begun m k s → Trial ws k s b
-    go (got p us i) q f = record { program = p; rest = us; index = i; is-ready = q; is-begun = f }
-    go (refused r) q f = let z : ◌≡◌ {A = ℕ} 0 1 = cc (ap (λ (y : Begun). y.status) f, h) in absurd (omega arith)
+    go : (m : Read Program) → ready (read ws) k s ≡ m → Ok b ≡ begun m k s → Trial ws k s b
+    go (got p us i) q f = record { program = p; rest = us; index = i; is-ready = q; is-begun = cc f }
+    go (refused r) q f = let z : ◌≡◌ {A = ℕ} 0 1 = cc f in absurd (omega arith)
 
 module _ (ws : List ℕ) (k : ℕ) (s : List ℤ) {b : Begun} (t : Trial ws k s b) where
   abbrev gs : List Range
@@ -223,4 +204,4 @@ module _ (ws : List ℕ) (k : ℕ) (s : List ℤ) {b : Begun} (t : Trial ws k s 
 
   pub tried-step : tried b s ≡ step_call ws k s
   tried-step =
-      rw (t.is-begun, t.is-ready) (tried-is t.program t.rest t.index k s at.inside.long well-formed.ranges.few action-ok)
+      rw (t.is-begun, t.is-ready) (tried-is t.program k s at.inside.long well-formed.ranges.few action-ok)

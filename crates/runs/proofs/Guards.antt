@@ -12,6 +12,8 @@ use lib.Signed.{le_z, lt_z, ◌<ℤ◌, ◌≤ℤ◌}
 use lib.ListN.{length, get_or, drop, replicate, drop_of_length-le}
 use lib.Seq.{drop-cons}
 use Rattle.integers.proofs.Tests.{lt_z_true, lt_z_false, lt_le_z, le_le_z, le_z_true, le_z_false, false-true, and-true}
+use Rattle.std.specs.Prelude.{Some, None, Result, Ok}
+use Rattle.words.specs.declared.Refusal.{Refusal}
 use Rattle.rows.specs.declared.Row.{Row}
 use Rattle.rows.specs.Rows.{row_value, holds}
 use Rattle.rows.specs.Bounds.{no_row}
@@ -21,6 +23,7 @@ use Rattle.runs.specs.declared.Failing.{Failing}
 use Rattle.runs.specs.declared.Stepped.{Stepped}
 use Rattle.runs.specs.declared.Stepped.TheVariants.{NotEnabled as Lacking}
 use Rattle.runs.specs.Runs.{Outcome, Moved, NotEnabled, RunsOff, all_hold, lowest_off, enabled, new_state, landed, action_of, step}
+use Rattle.runs.specs.Values.{where_failing}
 use Rattle.runs.specs.Guards.{later, first_failing, Near, Guarded}
 use Rattle.runs.specs.Calls.{outcome, answered}
 use Rattle.runs.proofs.Trying.{value-padded}
@@ -38,9 +41,6 @@ past k f = record { row = k + f.row; value = f.value }
 
 abbrev at_row : ℕ → ℤ → Failing
 at_row k v = record { row = k; value = v }
-
-pub past-none : (rs : List Row) (x : List ℤ) → past 0 (first_failing rs x) ≡ first_failing rs x
-past-none rs x = let f = first_failing rs x in ap (λ (n : ℕ). at_row n f.value) (omega arith)
 
 module _ (rs : List Row) (x : List ℤ) (k : ℕ) where
   module _ (l : k < length rs) where
@@ -60,6 +60,16 @@ module _ (rs : List Row) (x : List ℤ) (k : ℕ) where
   pub failing-end : length rs ≤ k → past k (first_failing (drop k rs) x) ≡ first_failing rs x → record { row = k; value = pos 0 } ≡ first_failing rs x
   unfolding first_failing
   failing-end h e = let f : past k (first_failing (drop k rs) x) ≡ record { row = k; value = pos 0 } = rw (drop_of_length-le rs {i = k} h) (ap (λ (n : ℕ). at_row n (pos 0)) (omega arith)) in sym f ∙ e
+
+pub where-fails : {f g : Failing} → f ≡ g → le_z (pos 0) f.value ≡ false → Some f ≡ where_failing g
+where-fails {f} e h = rw (← e, h) refl
+
+pub none-failing : (f : Failing) → where_failing f ≡ None → le_z (pos 0) f.value ≡ true
+none-failing f e = go (le_z (pos 0) f.value) refl e
+  where
+    go : (b : Bool) → le_z (pos 0) f.value ≡ b → cond b None (Some f) ≡ None → le_z (pos 0) f.value ≡ true
+    go true h g = h
+    go false h g = let z : ◌≡◌ {A = ℕ} 0 1 = cc g in absurd (omega arith)
 
 pub failing_padded : (rs : List Row) (xs : List ℤ) (n : ℕ) → first_failing rs (xs ++ replicate n (pos 0)) ≡ first_failing rs xs
 unfolding first_failing
@@ -148,14 +158,14 @@ step-guarded m k s =
     guarded step (λ p. landed p.ranges (new_state (action_of p k) s)) k s (λ p. refl)
     (λ p. let t = new_state (action_of p k) s in lands (ltb (lowest_off p.ranges t) (length p.ranges)) (lowest_off p.ranges t) t) m
 
-pub guarded-below : (m : Read Program) (k : ℕ) (s : List ℤ) {a : Stepped} → Guarded m k s a → (f : Failing) → a ≡ Lacking f → f.value <ℤ pos 0
+pub guarded-below : (m : Read Program) (k : ℕ) (s : List ℤ) {a : Result Stepped Refusal} → Guarded m k s a → (f : Failing) → a ≡ Ok (Lacking f) → f.value <ℤ pos 0
 guarded-below m k s {a} g f e = go m (subst (Guarded m k s) e g)
   where
-    go : (m : Read Program) → Guarded m k s (Lacking f) → f.value <ℤ pos 0
+    go : (m : Read Program) → Guarded m k s (Ok (Lacking f)) → f.value <ℤ pos 0
     go (refused r) h = let z : ◌≡◌ {A = ℕ} 0 1 = cc h in absurd (omega arith)
     go (got p us i) h = h.below
 
 -- a contract's three clauses
-pub told : (f : Program → ℕ → List ℤ → Outcome) (m : Read Program) (k : ℕ) (s : List ℤ) → Guarded m k s (answered f m k s).answer → {a : Stepped} {t : List ℤ}
+pub told : (f : Program → ℕ → List ℤ → Outcome) (m : Read Program) (k : ℕ) (s : List ℤ) → Guarded m k s (answered f m k s).answer → {a : Result Stepped Refusal} {t : List ℤ}
     → a ≡ (answered f m k s).answer → t ≡ (answered f m k s).state → (a ≡ (answered f m k s).answer) × (t ≡ (answered f m k s).state) × Guarded m k s a
 told f m k s g e h = (e, h, subst (Guarded m k s) (sym e) g)

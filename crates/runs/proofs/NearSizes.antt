@@ -7,7 +7,9 @@ use lib.IntN.{ℤ}
 use lib.ListN.{length, length-append}
 use mir.Syntax.{w32}
 use mir.Val.{SFits}
+use Rattle.std.specs.Prelude.{Result, Ok}
 use Rattle.integers.proofs.Laws.{sum, within-fits}
+use Rattle.words.specs.declared.Refusal.{Refusal}
 use Rattle.rows.specs.declared.Row.{Row}
 use Rattle.rows.specs.Rows.{row_value}
 use Rattle.rows.specs.Bounds.{AllWithin, max_state}
@@ -43,9 +45,9 @@ near_fits p good k known s h {f} n =
     let few = rw n.rows_are at ok.few in
     (omega (arith, n.number, few, length-append n.before (n.fails ∷ n.after)), rw n.value-is (value-fits n.fails s row_ok state))
 
-pub guarded-fits : (ws : List ℕ) (k : ℕ) (s : List ℤ) {a : Stepped} → Guarded (ready (read ws) k s) k s a → (f : Failing) → a ≡ NotEnabled f → Fits f
+pub guarded-fits : (ws : List ℕ) (k : ℕ) (s : List ℤ) {a : Result Stepped Refusal} → Guarded (ready (read ws) k s) k s a → (f : Failing) → a ≡ Ok (NotEnabled f) → Fits f
 guarded-fits ws k s {a} g f e = go (ready (read ws) k s) refl (subst (Guarded (ready (read ws) k s) k s) e g)
   where
-    go : (m : Read Program) → ready (read ws) k s ≡ m → Guarded m k s (NotEnabled f) → Fits f
+    go : (m : Read Program) → ready (read ws) k s ≡ m → Guarded m k s (Ok (NotEnabled f)) → Fits f
     go (refused r) is h = let z : ◌≡◌ {A = ℕ} 0 1 = cc h in absurd (omega arith)
     go (got p us i) is h = let at = ready-known (read ws) k s is in near_fits p (accepted ws p us i at.is_read).good k at.known s at.inside h

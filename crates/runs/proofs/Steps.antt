@@ -9,6 +9,7 @@ use lib.Dec.{ltb}
 use lib.IntN.{ℤ}
 use lib.ListN.{length}
 use borrow.Author.Tests.{ltb-false}
+use Rattle.std.specs.Prelude.{Ok}
 use Rattle.rows.specs.declared.Range.{Range}
 use Rattle.grammar.specs.Reading.{Read, got}
 use Rattle.grammar.specs.Programs.{Program}
@@ -39,7 +40,7 @@ two_steps p j k {s} h g =
 -- ---- the call
 module _ (ws : List ℕ) (p : Program) {us : List ℕ} {i : ℕ} (q : read ws ≡ got p us i) where
   -- a call that does not run off leaves what the definition leaves
-  pub call-leaves : (k : ℕ) (s : List ℤ) → k < length p.actions → Inside p s → ((v : ℕ) → (step_call ws k s).answer ≡ RunsOff v → ⊥) → Leaves p k s (step_call ws k s).state
+  pub call-leaves : (k : ℕ) (s : List ℤ) → k < length p.actions → Inside p s → ((v : ℕ) → (step_call ws k s).answer ≡ Ok (RunsOff v) → ⊥) → Leaves p k s (step_call ws k s).state
   call-leaves k s known h never = go (step p k s) refl
     where
       same : outcome (action_of p k).guards (step p k s) s ≡ step_call ws k s
@@ -73,7 +74,7 @@ inside-left p k {s} {t} h g = ⊎_elim
 
 -- two calls in a row, neither of which runs off, are the run of the two actions
 pub two_calls : (ws : List ℕ) (p : Program) {us : List ℕ} {i : ℕ} → read ws ≡ got p us i → (j k : ℕ) (s : List ℤ) → j < length p.actions → k < length p.actions → Inside p s
-    → ((v : ℕ) → (step_call ws j s).answer ≡ RunsOff v → ⊥) → ((v : ℕ) → (step_call ws k (step_call ws j s).state).answer ≡ RunsOff v → ⊥)
+    → ((v : ℕ) → (step_call ws j s).answer ≡ Ok (RunsOff v) → ⊥) → ((v : ℕ) → (step_call ws k (step_call ws j s).state).answer ≡ Ok (RunsOff v) → ⊥)
     → (run p (j ∷ k ∷ []) s).states ≡ s ∷ (step_call ws j s).state ∷ (step_call ws k (step_call ws j s).state).state ∷ []
 two_calls ws p q j k s lj lk h never₁ never₂ =
     let a = call-leaves ws p q j s lj h never₁ in

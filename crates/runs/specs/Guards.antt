@@ -4,14 +4,15 @@
 -- first_failing — the first of some rows that fails, counted from 0, and its value; where all hold, the number of rows and 0
 -- Near          — what this says where one fails: the rows before it hold, and its exact value is below 0
 -- Guarded       — what the answer of a step says of the guards: the first that fails, or that the action was enabled
-use Rattle.std.specs.Prelude.{◌≡◌, true, cond, List, [], ◌∷◌, ◌++◌, ℕ, suc, ℤ, pos, ◌<ℤ◌, length}
+use Rattle.std.specs.Prelude.{◌≡◌, Result, Ok, Err, true, cond, List, [], ◌∷◌, ◌++◌, ℕ, suc, ℤ, pos, ◌<ℤ◌, length}
+use Rattle.words.specs.declared.Refusal.{Refusal}
 use Rattle.rows.specs.declared.Row.{Row}
 use Rattle.rows.specs.Rows.{row_value, holds}
 use Rattle.grammar.specs.Reading.{Read, got, refused}
 use Rattle.grammar.specs.Programs.{Program}
 use Rattle.runs.specs.declared.Failing.{Failing}
 use Rattle.runs.specs.declared.Stepped.{Stepped}
-use Rattle.runs.specs.declared.Stepped.TheVariants.{Moved, NotEnabled, RunsOff, Refused}
+use Rattle.runs.specs.declared.Stepped.TheVariants.{Moved, NotEnabled, RunsOff}
 use Rattle.runs.specs.Runs.{all_hold, enabled, action_of}
 
 abbrev pub later : Failing → Failing
@@ -36,9 +37,9 @@ pub record Near (rows : List Row) (s : List ℤ) (f : Failing) : Type 0 where
 
 -- Of action k of a program, tried on a state: not enabled names the first guard row that fails; moved and runs off say that the action is enabled. Where
 -- something is refused, the answer is that refusal.
-abbrev pub Guarded : Read Program → ℕ → List ℤ → Stepped → Type 0
-Guarded (refused r) k s a = a ≡ Refused r
-Guarded (got p ws i) k s (NotEnabled f) = Near (action_of p k).guards s f
-Guarded (got p ws i) k s Moved = enabled (action_of p k) s ≡ true
-Guarded (got p ws i) k s (RunsOff v) = enabled (action_of p k) s ≡ true
-Guarded (got p ws i) k s (Refused r) = ⊥
+abbrev pub Guarded : Read Program → ℕ → List ℤ → Result Stepped Refusal → Type 0
+Guarded (refused r) k s a = a ≡ Err r
+Guarded (got p ws i) k s (Ok (NotEnabled f)) = Near (action_of p k).guards s f
+Guarded (got p ws i) k s (Ok Moved) = enabled (action_of p k) s ≡ true
+Guarded (got p ws i) k s (Ok (RunsOff v)) = enabled (action_of p k) s ≡ true
+Guarded (got p ws i) k s (Err r) = ⊥

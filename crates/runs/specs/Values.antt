@@ -2,13 +2,16 @@
 --
 -- padded           — a state of at most eight variables, with zeros behind
 -- SmallRows        — every row's numbers are small enough to compute with
--- not_begun, begun — what trying an action begins with, on arrays
+-- where_off        — the lowest of n variables that is off its range, where one is
+-- where_failing    — the first of some rows that fails, where one does
+-- begun_on, begun  — what trying an action begins with, on arrays, or the refusal
 -- Good             — its numbers are small enough to compute with
 -- lacking          — the first of its guard rows that fails
 -- Fits             — a record of 32-bit numbers has room for it
 -- tried            — what trying it does
 -- row_if           — a row, where a test holds
 -- premise_rows     — the rows of a set's literals, of some predicates from number i on
+use Rattle.std.specs.Prelude.{Option, Some, None, Result, Ok, Err}
 use Rattle.std.specs.Prelude.{Bool, cond, List, [], ◌∷◌, ◌++◌, map, ℕ, suc, ◌+◌, ◌-◌, ◌≤◌, ◌<◌, ltb, ℤ, pos, length, get_or, take, replicate}
 use Rattle.std.specs.Int.Signed.{le_z}
 use Rattle.std.proofs.lemmas.List.Edits.{sets}
@@ -23,7 +26,6 @@ use Rattle.grammar.specs.Reading.{Read, got, refused}
 use Rattle.grammar.specs.Programs.{Program}
 use Rattle.reader.specs.Results.{zero_rows}
 use Rattle.actions.specs.NewRows.{keep_rows, assigned}
-use Rattle.programs.specs.declared.Status.TheVariants.{Ready, Failed}
 use Rattle.programs.specs.Images.{zero_ranges}
 use Rattle.runs.specs.declared.Begun.{Begun}
 use Rattle.runs.specs.declared.Failing.{Failing}
@@ -38,21 +40,29 @@ padded s = s ++ replicate (8 - length s) (pos 0)
 abbrev pub SmallRows : List Row → Type 0
 SmallRows rs = (k : ℕ) → Small (get_or rs k (record { coef = []; constant = pos 0 }))
 
--- what trying an action begins with: nothing to try, and why; or action k of a program, and a state
-abbrev pub not_begun : Refusal → Begun
-not_begun r = record { status = Failed r; ranges = zero_ranges; old = replicate 8 (pos 0); guards = 0; guard = zero_rows; rows = keep_rows }
+-- one of n variables, where it is one
+abbrev pub where_off : ℕ → ℕ → Option ℕ
+where_off n v = cond (ltb v n) (Some v) None
 
-abbrev pub begun : Read Program → ℕ → List ℤ → Begun
-begun (refused r) k s = not_begun r
-begun (got p ws i) k s =
+-- `outcome` names a row without asking whether one fails, so `first_failing` itself is no Option
+abbrev pub where_failing : Failing → Option Failing
+where_failing f = cond (le_z (pos 0) f.value) None (Some f)
+
+-- action k of a program and a state, on arrays
+abbrev pub begun_on : Program → ℕ → List ℤ → Begun
+begun_on p k s =
     record {
-      status = Ready;
       ranges = sets zero_ranges 0 p.ranges;
       old = padded s;
       guards = length (action_of p k).guards;
       guard = sets zero_rows 0 (action_of p k).guards;
       rows = assigned keep_rows (action_of p k).sets;
     }
+
+-- what trying action k of a program on a state begins with
+abbrev pub begun : Read Program → ℕ → List ℤ → Result Begun Refusal
+begun (refused r) k s = Err r
+begun (got p us i) k s = Ok (begun_on p k s)
 
 -- its numbers are small enough to compute with
 pub record Good (b : Begun) : Type 0 where
@@ -76,7 +86,7 @@ tried b s =
     let t = take (length s) (map (λ r. row_value r b.old) b.rows) in
     let v = lowest_off (take (length s) b.ranges) t in
     cond (le_z (pos 0) (lacking b).value)
-    (cond (ltb v (length s)) (stay (RunsOff v) s) (record { answer = Moved; state = t })) (stay (NotEnabled (lacking b)) s)
+    (cond (ltb v (length s)) (stay (Ok (RunsOff v)) s) (record { answer = Ok Moved; state = t })) (stay (Ok (NotEnabled (lacking b))) s)
 
 abbrev pub row_if : Bool → Row → List Row
 row_if b r = cond b (r ∷ []) []

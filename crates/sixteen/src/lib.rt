@@ -10,31 +10,23 @@ use rows::Row;
 fn cut(x: i64) -> u16
     ensures { result ≡ cut x }
 {
-    if x < 0 {
-        65535 - ((-1 - x) as u64 % 65536) as u16
-    } else {
-        (x as u64 % 65536) as u16
-    }
+    x.rem_euclid(65536) as u16
 }
 
-// The product of two numbers, wrapped.
+// The product of two numbers, wrapped: a function of its own.
 fn product(a: u16, b: u16) -> u16
     ensures { result ≡ wrapped_product a b }
 {
-    (a as u32 * b as u32 % 65536) as u16
+    a.wrapping_mul(b)
 }
 
 // Coefficients times held variables, each product added to the sum so far.
 fn products(coef: [i64; 8], held: [u16; 8]) -> u16
     ensures { result ≡ wrapped_dot 0 coef held }
 {
-    let mut sum: u16 = 0;
-    let mut i: usize = 0;
-    while i < 8 {
-        let c = coef[i];
-        let x = held[i];
-        sum = std::num::wrapping_add_u16(sum, product(cut(c), x));
-        i += 1;
+    let mut sum = 0u16;
+    for (c, x) in coef.iter().zip(&held) {
+        sum = sum.wrapping_add(product(cut(*c), *x));
     }
     sum
 }
@@ -43,36 +35,20 @@ fn products(coef: [i64; 8], held: [u16; 8]) -> u16
 fn value(row: Row, held: [u16; 8]) -> i64
     ensures { result ≡ wrapped_value row held }
 {
-    let coef = row.coef;
-    let constant = row.constant;
-    let n = std::num::wrapping_add_u16(products(coef, held), cut(constant));
-    words::signed_by(n as u32, 32768)
+    let n = products(row.coef, held).wrapping_add(cut(row.constant));
+    i64::from(n.cast_signed())
 }
 
 // What each of eight rows gives.
 pub fn values(rows: [Row; 8], held: [u16; 8]) -> [i64; 8]
     ensures { result ≡ map (λ row. wrapped_value row held) rows }
 {
-    let mut out = [0i64; 8];
-    let mut v: usize = 0;
-    while v < 8 {
-        let row = rows[v];
-        out[v] = value(row, held);
-        v += 1;
-    }
-    out
+    rows.map(|row| value(row, held))
 }
 
 // Eight variables as the rack holds them.
 pub fn hold(x: [i64; 8]) -> [u16; 8]
     ensures { result ≡ map cut x }
 {
-    let mut held = [0u16; 8];
-    let mut v: usize = 0;
-    while v < 8 {
-        let a = x[v];
-        held[v] = cut(a);
-        v += 1;
-    }
-    held
+    x.map(cut)
 }

@@ -1,24 +1,22 @@
 -- `sixteen::products` meets its contract. The invariant: the rest of the row, added to the sum so far, is the whole.
-use Rattle.std.proofs.Common.{◌≡◌, ℕ, length, get_or, pos, sym, refl, ap, ◌∙◌, arith, to_z-of_z, w64, SFits, rules}
-use Rattle.sixteen.specs.Sixteen.{cut, wrapped_sum, wrapped_product}
+use Rattle.std.proofs.Common.{◌≡◌, length, pos, sym, ◌∙◌, arith, to_z-of_z, w64, SFits, rules}
+use Rattle.std.proofs.lemmas.List.{length_push}
+use Rattle.std.proofs.lemmas.Slice.Zip.{zip_turn, zip_end}
 use Rattle.sixteen.proofs.Laws.{dot-next, dot-end}
 use Rattle.sixteen.proofs.products.Goals as goal
 
-pub loop-i-init : goal.loop-i-init
-loop-i-init c = (omega arith, refl)
-
-pub loop-i-preserved : goal.loop-i-preserved
-loop-i-preserved c =
+pub loop-c-preserved : goal.loop-c-preserved
+loop-c-preserved c =
     let cs = c.args.coef in
     let xs = c.args.held in
-    let a : length cs ≡ 8 = search rules in
-    let b : length xs ≡ 8 = search rules in
-    let f : SFits w64 (get_or cs c.loop-i.i (pos 0)) = search rules in
-    let e = c.wrapping_add_u16-sum.ensures.value ∙ ap (wrapped_sum c.loop-i.sum) (c.product.ensures ∙ ap (λ (k : ℕ). wrapped_product k (get_or xs c.loop-i.i 0)) (c.cut.ensures ∙ ap cut (to_z-of_z f))) in
-    (omega arith, rw e (sym (dot-next c.loop-i.sum cs xs c.loop-i.i (omega arith) (omega arith)) ∙ c.loop-i.invariant.1))
+    let (l, m, a, b) = zip_turn cs xs c.loop-c.yielded c.into_iter-c-iterator.result c.loop-c.c-iterator c.next.new.self c.next.result (search rules) (search rules) c.loop-c.yielded_by (c.in-Some.c, c.in-Some.x) c.in-Some.is c.next.ensures.steps in
+    let f : SFits w64 c.in-Some.c.now = search rules in
+    rw (length_push c.loop-c.yielded (c.in-Some.c, c.in-Some.x), c.product-sum.ensures, c.cut.ensures, to_z-of_z f, a (pos 0), b 0) (sym (dot-next c.loop-c.sum cs xs (length c.loop-c.yielded) l m) ∙ c.loop-c.invariant)
 
 pub returns : goal.returns
 returns c =
     let cs = c.args.coef in
+    let n = zip_end cs c.args.held c.loop-c.yielded c.into_iter-c-iterator.result c.loop-c.c-iterator c.next.new.self c.next.result (search rules) (search rules) c.loop-c.yielded_by c.in-None.is c.next.ensures.steps in
     let l : length cs ≡ 8 = search rules in
-    sym (dot-end c.loop-i.sum cs c.args.held c.loop-i.i (omega arith)) ∙ c.loop-i.invariant.1
+    let m : length c.args.held ≡ 8 = search rules in
+    sym (dot-end c.loop-c.sum cs c.args.held (length c.loop-c.yielded) (omega arith)) ∙ c.loop-c.invariant

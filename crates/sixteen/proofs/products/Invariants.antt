@@ -1,10 +1,7 @@
 -- `sixteen::products` meets its contract. The invariant: the rest of the row, added to the sum so far, is the whole.
-use Rattle.std.proofs.Common.{◌≡◌, ◌-◌, ◌≤◌, drop}
+use Rattle.std.proofs.Common.{◌≡◌, length, drop}
 use Rattle.sixteen.specs.Sixteen.{wrapped_dot}
 use Rattle.sixteen.proofs.products.Given as goal
 
-abbrev pub invariant-loop-i : goal.invariant-loop-i
-invariant-loop-i l = (l.i ≤ 8) × (wrapped_dot l.sum (drop l.i l.coef) (drop l.i l.held) ≡ wrapped_dot 0 l.coef l.held)
-
-abbrev pub decreases-loop-i : goal.decreases-loop-i
-decreases-loop-i l = 8 - l.i
+abbrev pub invariant-loop-c : goal.invariant-loop-c
+invariant-loop-c l = wrapped_dot l.sum (drop (length l.yielded) l.fn.coef) (drop (length l.yielded) l.fn.held) ≡ wrapped_dot 0 l.fn.coef l.fn.held
