@@ -1,18 +1,15 @@
 -- The rows and multipliers of a lemma as the code has them: the goal's row from the arrays of an image, and the numbers in the MULT words.
 use mathlib.Core.Path.{◌≡◌, refl, ap, ◌∙◌}
-use mathlib.Core.Bool.{Bool, true, false, not}
+use mathlib.Core.Bool.{Bool, true, false}
 use mathlib.Core.List.{List, [], ◌∷◌, ◌++◌, map}
 use Prim.Native.Nat.{ℕ, suc, ◌%◌, ◌≤◌, ◌<◌}
 use native.Mathlib.Omega.{arith}
-use lib.Dec.{eqb}
-use lib.IntN.{ℤ, pos, negsuc, ◌-ℤ◌}
+use lib.IntN.{ℤ, pos, negsuc}
 use lib.ListN.{length, get_or, set, replicate}
 use lib.Seq.{sets}
 use borrow.Author.Tests.{ltb-true, eqb-true}
-use mir.Syntax.{w64}
-use mir.Val.{SFits}
 use Rattle.integers.proofs.Fill.{same_default}
-use Rattle.integers.proofs.Laws.{Within, within-fits, within_weaken, sum, opposite, literal}
+use Rattle.integers.proofs.Laws.{Within, within_weaken, opposite, literal}
 use Rattle.words.specs.Words.{word, MULT}
 use Rattle.rows.specs.declared.Row.{Row}
 use Rattle.rows.specs.declared.Range.{Range}
@@ -24,15 +21,14 @@ use Rattle.grammar.specs.WellFormed.{Each, WellFormed}
 use Rattle.reader.specs.Results.{zero_row, zero_rows}
 use Rattle.programs.specs.Images.{zero_ranges}
 use Rattle.programs.proofs.Places.{stored_at}
-use Rattle.runs.specs.Values.{row_if}
 use Rattle.runs.specs.Runs.{action_of, predicate}
 use Rattle.runs.proofs.Sizes.{every_set, zeros-small}
-use Rattle.sums.specs.Sums.{add_scaled, combine, const_row, afterwards}
-use Rattle.acceptance.specs.Adding.{mult_of}
+use Rattle.sums.specs.Sums.{add_scaled, combine, const_row}
+use Rattle.acceptance.specs.Adding.{mult_of, goal_rows}
 use Rattle.lemmas.specs.Lemmas.{Goal, CannotHappen, HoldsAfter, FailsAfter, NotBelow, NotAbove, goal_number, range_at, new_rows, negated_goal}
 use Rattle.lemmas.specs.LemmaGrammar.{goal_allowed, sets_variable, encode_multiplier}
 use Rattle.lemmas.proofs.LemmaLaws.{sets-known, action-rising}
-use Rattle.ask.specs.Weighing.{end_row, goal_row, refuted}
+use Rattle.ask.specs.Weighing.{end_row, against}
 
 -- ---- multipliers
 mult_is : (m : ℕ) → m ≤ 65535 → mult_of (word MULT m) ≡ pos m
@@ -69,11 +65,8 @@ module _ (p : Program) (ok : WellFormed p) (s : ℕ) where
   set_known : (v : ℕ) → sets_variable (action_of p s).sets v ≡ true → v < length p.ranges
   set_known v e = sets-known (length p.ranges) 0 (action_of p s).sets v (action-rising (length p.ranges) p.actions s ok.actions.each) e
 
-  abbrev row : ℕ → ℕ → Row
-  row g i = goal_row (sets zero_ranges 0 p.ranges) (sets zero_rows 0 p.predicates) g i
-
   pub negated-is : (g : Goal) (i : ℕ) → goal_allowed p s g i ≡ true
-      → row_if (not (eqb (goal_number g) 0)) (afterwards (new_rows p s) (refuted (goal_number g) (row (goal_number g) i))) ≡ negated_goal p s g i
+      → goal_rows (against (sets zero_ranges 0 p.ranges) (sets zero_rows 0 p.predicates) (new_rows p s) (goal_number g) i) ≡ negated_goal p s g i
   negated-is CannotHappen i e = refl
   negated-is HoldsAfter i e = rw (predicate-at i (ltb-true i (length p.predicates) e)) refl
   negated-is FailsAfter i e = rw (predicate-at i (ltb-true i (length p.predicates) e)) refl
@@ -88,9 +81,6 @@ module _ (p : Program) (ok : WellFormed p) (s : ℕ) where
   index-few NotAbove i e = (λ l. absurd (omega arith), λ l. omega (arith, set_known i e, ok.ranges.few))
 
 -- ---- the rows of the ends, in bounds
-pub low_fits : {g : Range} → SmallRange g → SFits w64 (pos 0 -ℤ g.low)
-low_fits h = within-fits w64 (omega arith) (sum (literal {B = 0} {z = pos 0} tt tt) (opposite h.low))
-
 unit_small : (v : ℕ) (k : ℤ) → Within 1000 k → AllWithin 1000 (set (replicate 8 (pos 0)) v k)
 unit_small v k h = every_set (Within 1000) (pos 0) (replicate 8 (pos 0)) v k zeros-small h
 

@@ -1,11 +1,10 @@
 -- The lemma that begins at an index: what the code reads of it, and its largest value.
 use mathlib.Core.Path.{◌≡◌, sym, ap, ◌∙◌, subst}
-use mathlib.Core.Bool.{not}
+use Rattle.std.specs.Prelude.{Option}
 use mathlib.Core.List.{List, ◌++◌, map}
 use Prim.Native.Nat.{ℕ, ◌+◌, ◌≤◌, ◌<◌}
 use native.Mathlib.Omega.{arith}
 use native.Mathlib.Nat.{add-zero}
-use lib.Dec.{eqb}
 use lib.IntN.{pos}
 use lib.ListN.{length, get_or, take, drop, length-append, length-drop}
 use lib.Seq.{get_or-drop, drop-drop}
@@ -22,12 +21,12 @@ use Rattle.grammar.proofs.ReadingLaws.{Taken}
 use Rattle.reader.specs.Results.{zero_row}
 use Rattle.programs.specs.declared.Image.{Image}
 use Rattle.programs.specs.Images.{image_of}
-use Rattle.runs.specs.Values.{row_if, premise_rows}
+use Rattle.runs.specs.Values.{premise_rows}
 use Rattle.runs.specs.Runs.{action_of, literal_rows}
 use Rattle.runs.proofs.LiteralRows.{premises-same}
 use Rattle.runs.proofs.Sizes.{front_stored, ReadRows, guards-read, new-rows-read, ranges-small}
-use Rattle.sums.specs.Sums.{combine, const_row, afterwards}
-use Rattle.acceptance.specs.Adding.{mult_of}
+use Rattle.sums.specs.Sums.{combine, const_row}
+use Rattle.acceptance.specs.Adding.{mult_of, goal_rows}
 use Rattle.lemmas.specs.Lemmas.{goal_number, Lemma, source_rows, negated_goal, rows_of, total, largest_of}
 use Rattle.lemmas.specs.LemmaGrammar.{encode_multiplier, encode_lemma, LemmaOk}
 use Rattle.lemmas.specs.Sources.{the_program, Held, source_of}
@@ -35,7 +34,7 @@ use Rattle.lemmas.specs.declared.Source.{Source}
 use Rattle.lemmas.proofs.LemmaLaws.{lemma-codec, first-is, action-rising}
 use Rattle.lemmas.proofs.SourceLaws.{counts}
 use Rattle.lemmas.proofs.HeadLaws.{source-rows-good}
-use Rattle.ask.specs.Weighing.{the_lemma, IsLemma, goal_row, refuted}
+use Rattle.ask.specs.Weighing.{the_lemma, IsLemma, against}
 use Rattle.ask.proofs.Rows.{multiplied, mults_length, negated-is, index-few}
 
 module _ (p : Program) (ok : WellFormed p) (ls : List ℕ) (at : ℕ) (h : IsLemma p ls at) where
@@ -66,6 +65,9 @@ module _ (p : Program) (ok : WellFormed p) (ls : List ℕ) (at : ℕ) (h : IsLem
       let c = length-append (concat encode_multiplier here.multipliers) h.rest in
       let d = mults_length here.multipliers in
       omega (arith, good.counted)
+
+  pub mults_start : at + 2 ≤ length ls
+  mults_start = omega (arith, room)
 
   pub total-is : combine (const_row (pos 0)) (map mult_of (drop (at + 2) ls)) (rows_of p here) ≡ total p here
   total-is = rw mults-at (multiplied (const_row (pos 0)) here.multipliers h.rest (rows_of p here) good.counted good.small)
@@ -107,6 +109,9 @@ module _ (ws : List ℕ) {g : Image} (held : Held ws g) (ls : List ℕ) (at : �
     offers : x ≡ source_of p l.source
     offers = ex ∙ ap (source_of p) (fields p ok ls at h).0
 
+    pub counts-few : (g.preds ≤ 14) × (x.count ≤ 8)
+    counts-few = (omega (arith, (counts ws held 0).1, (counts ws held 0).4), rw offers (omega (arith, (source-rows-good p ok l.source).few)))
+
     pub index-ready : (goal ≤ 2 → i < 14) × (2 < goal → i < 8)
     index-ready = rw (goal-is, index_is) (index-few p ok l.source l.goal l.index (good p ok ls at h).goal)
 
@@ -116,12 +121,13 @@ module _ (ws : List ℕ) {g : Image} (held : Held ws g) (ls : List ℕ) (at : �
     pub rows-ready : ReadRows x.rows
     rows-ready = rw offers (guards-read 8 (length p.ranges) (source_rows p l.source) (source-rows-good p ok l.source).each)
 
-    module _ {row q : Row} (er : row ≡ goal_row g.ranges g.pred goal i) (eq : q ≡ afterwards x.new (refuted goal row)) where
+    -- the parts of the sum are the lemma's rows
+    module _ {q : Option Row} (eq : q ≡ against g.ranges g.pred x.new goal i) where
       abbrev rows : List Row
-      rows = row_if (not (eqb goal 0)) q ++ (premise_rows 0 (take g.preds g.pred) (payload s) ++ take x.count x.rows)
+      rows = goal_rows q ++ (premise_rows 0 (take g.preds g.pred) (payload s) ++ take x.count x.rows)
 
-      goal-row-is : row_if (not (eqb goal 0)) q ≡ negated_goal p l.source l.goal l.index
-      goal-row-is = rw (eq, er, goal-is, index_is, ranges-are, preds-are, offers) (negated-is p ok l.source l.goal l.index (good p ok ls at h).goal)
+      goal-row-is : goal_rows q ≡ negated_goal p l.source l.goal l.index
+      goal-row-is = rw (eq, goal-is, index_is, ranges-are, preds-are, offers) (negated-is p ok l.source l.goal l.index (good p ok ls at h).goal)
 
       premises-are : premise_rows 0 (take g.preds g.pred) (payload s) ≡ literal_rows p l.premises
       premises-are = rw (set_is, preds-are, (counts ws held 0).1) (ap (λ (rs : List Row). premise_rows 0 rs l.premises.0) (front_stored 14 zero_row p.predicates ok.predicates.few) ∙ sym (premises-same p l.premises))
@@ -132,12 +138,8 @@ module _ (ws : List ℕ) {g : Image} (held : Held ws g) (ls : List ℕ) (at : �
       rows_are : rows ≡ rows_of p l
       rows_are = λ t. goal-row-is t ++ (premises-are t ++ source_is t)
 
-      pub sum-ready : (g.preds ≤ 14) × (x.count ≤ 8) × (at + 2 + length rows ≤ length ls)
-      sum-ready = (
-        omega (arith, (counts ws held 0).1, (counts ws held 0).4),
-        rw offers (omega (arith, (source-rows-good p ok l.source).few)),
-        rw rows_are (room p ok ls at h),
-      )
+      pub rows-fit : length rows ≤ length (drop (at + 2) ls)
+      rows-fit = omega (arith, room p ok ls at h, ap (λ (rs : List Row). length rs) rows_are, length-drop (at + 2) ls)
 
       pub weighed-is : {sum : Row} → sum ≡ combine (const_row (pos 0)) (map mult_of (drop (at + 2) ls)) rows → largest_value sum g.ranges ≡ largest_of p l
       weighed-is {sum} e =

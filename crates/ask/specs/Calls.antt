@@ -4,12 +4,11 @@
 -- weighed                    — the answer by the lemma's largest value: refusal 11 where it leaves signed 64 bits
 -- ask_list, ask_program, ask — Ask; refusals in the order 2 to 4, 5 and 6, 8, 11
 -- TrueAt, TrueIn             — lemma k of what was read is true of all whole numbers in the ranges
-use Rattle.std.specs.Prelude.{cond, List, [], ℕ, leb, pos, length, get_or}
+use Rattle.std.specs.Prelude.{Option, Some, None, Result, Ok, Err, ℤ, cond, List, [], ℕ, leb, pos, length, get_or}
 use Rattle.std.specs.Int.Signed.{lt_z}
 use Rattle.words.specs.Words.{no_literals}
+use Rattle.words.specs.declared.Refusal.{Refusal}
 use Rattle.words.specs.declared.Refusal.TheVariants.{Absent, Sum}
-use Rattle.rows.specs.declared.Exact.{Exact}
-use Rattle.rows.specs.declared.Exact.TheVariants.{Value, Off}
 use Rattle.rows.specs.Rows.{exact}
 use Rattle.grammar.specs.Reading.{Read, got, refused}
 use Rattle.grammar.specs.Programs.{Program}
@@ -18,24 +17,24 @@ use Rattle.lemmas.specs.Lemmas.{CannotHappen, Lemma, largest_of}
 use Rattle.lemmas.specs.LemmaGrammar.{read_lemmas}
 use Rattle.lemmas.specs.Truth.{True}
 use Rattle.ask.specs.declared.Asked.{Asked}
-use Rattle.ask.specs.declared.Asked.TheVariants.{Accepted, NotAccepted, Refused}
+use Rattle.ask.specs.declared.Asked.TheVariants.{Accepted, NotAccepted}
 
 abbrev pub no_lemma : Lemma
 no_lemma = record { source = 0; goal = CannotHappen; index = 0; premises = no_literals; multipliers = [] }
 
-abbrev pub weighed : ℕ → Exact → Asked
-weighed k (Value z) = cond (lt_z z (pos 0)) Accepted NotAccepted
-weighed k Off = Refused (Sum k)
+abbrev pub weighed : ℕ → Option ℤ → Result Asked Refusal
+weighed k (Some z) = Ok (cond (lt_z z (pos 0)) Accepted NotAccepted)
+weighed k None = Err (Sum k)
 
-abbrev pub ask_list : Program → Read (List Lemma) → ℕ → Asked
-ask_list p (got ls ws i) k = cond (leb (length ls) k) (Refused (Absent k)) (weighed k (exact (largest_of p (get_or ls k no_lemma))))
-ask_list p (refused r) k = Refused r
+abbrev pub ask_list : Program → Read (List Lemma) → ℕ → Result Asked Refusal
+ask_list p (got ls ws i) k = cond (leb (length ls) k) (Err (Absent k)) (weighed k (exact (largest_of p (get_or ls k no_lemma))))
+ask_list p (refused r) k = Err r
 
-abbrev pub ask_program : Read Program → List ℕ → ℕ → Asked
+abbrev pub ask_program : Read Program → List ℕ → ℕ → Result Asked Refusal
 ask_program (got p ws i) lemmas k = ask_list p (read_lemmas p lemmas) k
-ask_program (refused r) lemmas k = Refused r
+ask_program (refused r) lemmas k = Err r
 
-abbrev pub ask : List ℕ → List ℕ → ℕ → Asked
+abbrev pub ask : List ℕ → List ℕ → ℕ → Result Asked Refusal
 ask ws lemmas k = ask_program (read ws) lemmas k
 
 abbrev pub TrueAt : Program → Read (List Lemma) → ℕ → Type 0

@@ -5,13 +5,15 @@
 -- end_row             — the row of goal 3 or 4
 -- goal_row            — the row of a goal, from the arrays of an image
 -- refuted             — the negated goal: of goal 2 the row itself
-use Rattle.std.specs.Prelude.{◌≡◌, Bool, true, false, cond, List, ℕ, eqb, leb, pos, negsuc, neg_ℤ, get_or, set, drop, replicate}
+-- against             — that row afterwards; none of goal 0
+use Rattle.std.specs.Prelude.{Option, Some, None, ◌≡◌, Bool, true, false, cond, List, ℕ, eqb, leb, pos, negsuc, neg_ℤ, get_or, set, drop, replicate}
 use Rattle.rows.specs.declared.Row.{Row}
 use Rattle.rows.specs.declared.Range.{Range}
 use Rattle.rows.specs.Rows.{negated, zero_range}
 use Rattle.rows.specs.Bounds.{no_row}
 use Rattle.grammar.specs.Reading.{Read, got, refused}
 use Rattle.grammar.specs.Programs.{Program}
+use Rattle.sums.specs.Sums.{afterwards}
 use Rattle.lemmas.specs.Lemmas.{Lemma}
 use Rattle.lemmas.specs.LemmaGrammar.{lemma}
 use Rattle.ask.specs.Calls.{no_lemma}
@@ -37,3 +39,6 @@ goal_row gs ps goal i = cond (leb goal 2) (get_or ps i no_row) (end_row (get_or 
 
 abbrev pub refuted : ℕ → Row → Row
 refuted goal r = cond (eqb goal 2) r (negated r)
+
+abbrev pub against : List Range → List Row → List Row → ℕ → ℕ → Option Row
+against gs ps new goal i = cond (eqb goal 0) None (Some (afterwards new (refuted goal (goal_row gs ps goal i))))

@@ -20,13 +20,9 @@ zero_bits (negsuc n) f = ne_eqb (of_z w64 (negsuc n)) 0 (λ e. omega (arith, f.s
 
 -- ---- the loop over the variables: coefficient v, where those below are clear or not
 module _ (marks : List Bool) (coef : List ℤ) (v : ℕ) (b : Bool) (is : b ≡ clear_below marks coef v) where
-  and_yes : (x : Bool) → (x && true) ≡ x
-  and_yes true = refl
-  and_yes false = refl
-
-  pub clear-left : get_or marks v false ≡ false → b ≡ clear_below marks coef (v + 1)
+  pub clear-left : get_or marks v false ≡ false → (b && true) ≡ clear_below marks coef (v + 1)
   unfolding clear_below
-  clear-left m = rw (add-one v, m) (is ∙ sym (and_yes (clear_below marks coef v)))
+  clear-left m = rw (add-one v, m, is) refl
 
   pub clear-also : get_or marks v false ≡ true → (z : Bool) → z ≡ eqb (nat_abs (get_or coef v (pos 0))) 0 → (b && z) ≡ clear_below marks coef (v + 1)
   unfolding clear_below

@@ -8,7 +8,7 @@ use native.Mathlib.Decide.{dec_lt}
 use native.Mathlib.Omega.{arith}
 use lib.Dec.{eqb}
 use lib.IntN.{pos, nat_abs}
-use lib.ListN.{length, get_or}
+use lib.ListN.{length, get_or, take, length-take}
 use borrow.Author.Tests.{eqb-true, eq-eqb, lt-ltb, le-ltb}
 use native.Mathlib.Nat.{not-suc-le-zero, eq-or-lt_of_le, le_of_suc-le-suc}
 use Rattle.integers.proofs.Fill.{same_default}
@@ -21,13 +21,12 @@ use Rattle.reader.specs.Results.{zero_row}
 use Rattle.actions.specs.Results.{variables_set, none_set}
 use Rattle.programs.specs.declared.Image.{Image}
 use Rattle.programs.specs.declared.Shape.{Shape}
-use Rattle.programs.specs.Images.{no_shape, image_of}
-use Rattle.programs.proofs.Places.{stored_at}
+use Rattle.programs.specs.Images.{image_of}
 use Rattle.programs.proofs.Tables.{table_at, table-past}
 use Rattle.runs.specs.Runs.{action_of, predicate}
-use Rattle.runs.proofs.Sizes.{ReadRows, guards-read}
+use Rattle.runs.proofs.Sizes.{ReadRows, guards-read, front_stored}
 use Rattle.lemmas.specs.LemmaGrammar.{sets_variable}
-use Rattle.lemmas.proofs.SourceLaws.{stored-shape}
+use Rattle.lemmas.proofs.SourceLaws.{stored-shape, front_read}
 use Rattle.lemmas.proofs.HeadLaws.{marks-of}
 use Rattle.lemmas.proofs.LemmaLaws.{sets-known, action-rising}
 use Rattle.sets.specs.Sets.{pairs_to}
@@ -46,29 +45,29 @@ unfolding pairs_to
 mask_alike t u zero h = refl
 mask_alike t u (suc n) h = rw (h n (omega arith), mask_alike t u n (λ j l. h j (omega arith)))
 
--- they are the parts of a program's image
-pub record PartsOf (p : Program) (actions : ℕ) (shapes : List Shape) (predicates : List Row) (n : ℕ) : Type 0 where
-  pub actions_are : actions ≡ length p.actions
-  pub shapes_are : shapes ≡ (image_of p).shapes
-  pub predicates_are : predicates ≡ (image_of p).pred
-  pub n_is : n ≡ length p.predicates
+module _ {image : Image} where
+  -- by a well-formed program of which it is the image
+  module _ (p : Program) (ok : WellFormed p) (same : image ≡ image_of p) where
+    pub counts-few : (image.actions ≤ 16) × (image.preds ≤ 14)
+    counts-few = (omega (arith, ap (λ (y : Image). y.actions) same, ok.actions.few), omega (arith, ap (λ (y : Image). y.preds) same, ok.predicates.few))
 
-pub mask-stored : (p : Program) {actions : ℕ} {shapes : List Shape} {predicates : List Row} {n : ℕ} → PartsOf p actions shapes predicates n
-    → length p.actions ≤ 16 → length p.predicates ≤ 14 → (k : ℕ) → k < length p.actions → mask_by predicates (get_or shapes k no_shape).set n ≡ mask_of p (action_of p k)
-mask-stored p parts few small k l =
-    rw (parts.predicates_are, parts.n_is, stored-shape p few parts.shapes_are k no_shape l)
-    (mask_alike _ _ (length p.predicates) (λ j h. ap (λ (r : Row). clear_below (variables_set none_set (action_of p k).sets) r.coef 8) (stored_at 14 zero_row p.predicates j no_row h small)))
+    pub rows-ready : (length (take image.preds image.pred) ≤ 14) × ReadRows (take image.preds image.pred)
+    rows-ready =
+        let few = counts-few.1 in
+        (omega (arith, length-take {A = Row}), front_read image.preds image.pred (rw same (guards-read 14 (length p.ranges) p.predicates ok.predicates.each)))
 
-module _ (p : Program) {image : Image} (same : image ≡ image_of p) where
-  pub parts-of : PartsOf p image.actions image.shapes image.pred image.preds
-  parts-of = rw same (record { actions_are = refl; shapes_are = refl; predicates_are = refl; n_is = refl })
+  -- by any
+  module _ (few : (image.actions ≤ 16) × (image.preds ≤ 14)) (p : Program) (same : image ≡ image_of p) where
+    pub actions_are : image.actions ≡ length p.actions
+    actions_are = ap (λ (y : Image). y.actions) same
 
-  module _ (ok : WellFormed p) where
-    pub actions-few : image.actions ≤ 16
-    actions-few = omega (arith, ap (λ (y : Image). y.actions) same, ok.actions.few)
+    front-is : take image.preds image.pred ≡ p.predicates
+    front-is = rw same (front_stored 14 zero_row p.predicates (omega (arith, few.1, ap (λ (y : Image). y.preds) same)))
 
-    pub rows-ready : (image.preds ≤ 14) × ReadRows image.pred
-    rows-ready = (omega (arith, ap (λ (y : Image). y.preds) same, ok.predicates.few), rw (ap (λ (y : Image). y.pred) same) (guards-read 14 (length p.ranges) p.predicates ok.predicates.each))
+    pub mask-stored : (k : ℕ) (d : Shape) → k < image.actions
+        → mask_by (take image.preds image.pred) (get_or image.shapes k d).set (length (take image.preds image.pred)) ≡ mask_of p (action_of p k)
+    mask-stored k d l =
+        rw (front-is, stored-shape p (omega (arith, few.0, actions_are)) (ap (λ (y : Image). y.shapes) same) k d (omega (arith, actions_are))) refl
 
 -- ---- the variables that are marked are those that are set
 clear-is : (marks : List Bool) (r : Row) (n : ℕ) → (clear_below marks r.coef n ≡ true) ↔ ((v : ℕ) → v < n → get_or marks v false ≡ true → Zero r v)

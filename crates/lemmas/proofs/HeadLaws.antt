@@ -4,10 +4,9 @@ use mathlib.Core.Bool.{Bool, true, false, cond, ◌&&◌, ◌||◌, not}
 use mathlib.Core.List.{List, [], ◌∷◌}
 use Prim.Native.Nat.{ℕ, zero, suc, ◌+◌, ◌-◌, ◌≤◌, ◌<◌}
 use native.Mathlib.Omega.{arith}
-use native.Mathlib.Nat.{sub-zero}
 use native.Mathlib.Numerals.{add-one}
 use native.Mathlib.Decide.{ℕ_discrete}
-use lib.Dec.{eqb, ltb, leb}
+use lib.Dec.{eqb, leb}
 use lib.ListN.{length, get_or, set, replicate, length-append, length-set}
 use lib.Seq.{get_or-set_same, get_or-set_other}
 use borrow.Author.Tests.{eq-eqb, ne_eqb, lt-leb}
@@ -28,34 +27,6 @@ use Rattle.lemmas.specs.Sources.{the_program, Held, shape_of, goal_by, head_by, 
 use Rattle.programs.specs.declared.Shape.{Shape}
 use Rattle.lemmas.proofs.LemmaLaws.{action-rising, action-guards}
 use Rattle.lemmas.proofs.SourceLaws.{counts}
-
--- ---- goals, as the code tells them apart
-module _ (preds : ℕ) (set : List Bool) (i : ℕ) where
-  pub goal-zero : (g : ℕ) → g ≡ 0 → eqb i 0 ≡ goal_by preds set g i
-  goal-zero zero e = refl
-  goal-zero (suc g) e = absurd (omega arith)
-
-  pub goal-pred : (g : ℕ) → (g ≡ 0 → ⊥) → g ≤ 2 → ltb i preds ≡ goal_by preds set g i
-  goal-pred zero n l = absurd (n refl)
-  goal-pred (suc zero) n l = refl
-  goal-pred (suc (suc zero)) n l = refl
-  goal-pred (suc (suc (suc g))) n l = absurd (omega arith)
-
-  pub goal-end : (g : ℕ) → 2 < g → g ≤ 4 → get_or set i false ≡ goal_by preds set g i
-  goal-end zero n l = absurd (omega arith)
-  goal-end (suc zero) n l = absurd (omega arith)
-  goal-end (suc (suc zero)) n l = absurd (omega arith)
-  goal-end (suc (suc (suc zero))) n l = refl
-  goal-end (suc (suc (suc (suc zero)))) n l = refl
-  goal-end (suc (suc (suc (suc (suc g))))) n l = absurd (omega arith)
-
-  pub goal-none : (g : ℕ) → 4 < g → false ≡ goal_by preds set g i
-  goal-none zero n = absurd (omega arith)
-  goal-none (suc zero) n = absurd (omega arith)
-  goal-none (suc (suc zero)) n = absurd (omega arith)
-  goal-none (suc (suc (suc zero))) n = absurd (omega arith)
-  goal-none (suc (suc (suc (suc zero)))) n = absurd (omega arith)
-  goal-none (suc (suc (suc (suc (suc g))))) n = refl
 
 -- ---- the marks of an action are its assignments
 marks-is : (ss : List Assignment) (bs : List Bool) (vars v : ℕ) → Rising vars v ss → vars ≤ length bs → (i : ℕ) → get_or (variables_set bs ss) i false ≡ (get_or bs i false || sets_variable ss i)
@@ -138,10 +109,7 @@ one_if_small true = omega arith
 one_if_small false = omega arith
 
 module _ (n set : ℕ) where
-  pub counting-none : Counting n set 0 0
-  counting-none = record { few = omega arith; small = omega arith; same = rw (sub-zero n) (omega arith) }
-
-  pub counting-next : {i t : ℕ} → Counting n set i t → i < n → Counting n set (i + 1) (t + one_if (has i set) + one_if (has (14 + i) set))
+  pub counting-next : {i t : ℕ} → Counting n set i t → i < n → Counting n set (i + 1) (t + (one_if (has i set) + one_if (has (14 + i) set)))
   unfolding literal_count
   counting-next {i} {t} c l =
       let a = one_if_small (has i set) in
@@ -177,6 +145,3 @@ module _ (ws : List ℕ) {g : Image} (h : Held ws g) where
 
     pub rows-known : row_count g' g.preds (payload s') x.count ≡ length (rows_of p (lemma_of w s []))
     rows-known = rw (ex, eg, ew, es, (counts ws h 0).1, none_alike (bits 19 16 w)) (rows-counted p (lemma_of w s []))
-
-    pub source-few : (g.preds ≤ 14) × (x.count ≤ 14)
-    source-few = rw ex (omega (arith, (counts ws h 0).1, (counts ws h 0).4), omega (arith, (source-rows-good p h.accepted.good (bits 27 20 w)).few))

@@ -1,14 +1,13 @@
 -- What a source offers, from the image of a program.
-use mathlib.Core.Path.{◌≡◌, refl, sym, ap, ◌∙◌}
+use mathlib.Core.Path.{◌≡◌, refl, sym, ap, ◌∙◌, subst}
 use mathlib.Core.Bool.{Bool, true, false, cond}
-use mathlib.Core.List.{List, [], ◌∷◌, ◌++◌, map}
-use Prim.Native.Nat.{ℕ, ◌+◌, ◌≤◌, ◌<◌}
+use mathlib.Core.List.{List, [], ◌∷◌, map}
+use Prim.Native.Nat.{ℕ, zero, suc, ◌+◌, ◌≤◌, ◌<◌}
 use native.Mathlib.Omega.{arith}
 use native.Mathlib.Decide.{dec_lt}
 use lib.Dec.{eqb}
-use native.Mathlib.Numerals.{add-one}
-use lib.Seq.{sets, length-sets, length-take-le, get_or-take, ext_get_or, take-suc, take-suc-set}
-use lib.ListN.{length, get_or, set, take, drop, length-map, get_or-eq_default}
+use lib.Seq.{sets, length-sets, length-take-le, get_or-take, ext_get_or}
+use lib.ListN.{length, get_or, take, drop, length-map, get_or-eq_default}
 use borrow.Author.Tests.{eq-eqb, ne_eqb}
 use Rattle.integers.proofs.Fill.{get_d_mapped}
 use Rattle.rows.specs.declared.Row.{Row}
@@ -16,29 +15,39 @@ use Rattle.grammar.specs.Programs.{Action, Program}
 use Rattle.grammar.specs.Grammar.{action}
 use Rattle.grammar.specs.Encoding.{encode_action}
 use Rattle.reader.specs.Results.{zero_row, zero_rows}
-use Rattle.actions.specs.declared.ActionRead.{ActionRead}
+use Rattle.actions.specs.declared.Action.{Action as ActionRead}
+use Rattle.std.specs.Prelude.{Result, Ok}
+use Rattle.words.specs.declared.Refusal.{Refusal}
 use Rattle.actions.specs.NewRows.{keep_rows, assigned}
-use Rattle.actions.specs.Results.{action_read, none_set, variables_set}
+use Rattle.actions.specs.Results.{action_image, action_read, none_set, variables_set}
 use Rattle.programs.specs.declared.Image.{Image}
 use Rattle.programs.specs.declared.Shape.{Shape}
 use Rattle.programs.specs.Images.{image_of, no_shape, action_shape}
 use Rattle.programs.specs.Places.{places, first_action}
 use Rattle.programs.proofs.Places.{none_action, action_k, stored_at, blank-at, length-places}
 use Rattle.runs.specs.Runs.{action_of}
+use Rattle.runs.proofs.Sizes.{ReadRows}
+use Rattle.rows.specs.Bounds.{Read, no_row}
 use Rattle.lemmas.specs.Lemmas.{START}
 use Rattle.lemmas.proofs.LemmaLaws.{action-guards}
 use Rattle.lemmas.specs.declared.Source.{Source}
 use Rattle.lemmas.specs.Sources.{the_program, Held, eight_rows, source_of, shape_of}
+
+-- the first of some rows are in bounds as these are
+pub front_read : (n : ℕ) (rs : List Row) → ReadRows rs → ReadRows (take n rs)
+front_read zero rs h i = subst Read (get_or-eq_default rs no_row {n = length rs} (omega arith)) (h (length rs))
+front_read (suc n) [] h i = h i
+front_read (suc n) (r ∷ rs) h zero = h zero
+front_read (suc n) (r ∷ rs) h (suc i) = front_read n rs (λ j. h (suc j)) i
+
+same-action : {y z : ActionRead} {i j : ℕ} → ◌≡◌ {A = Result (ActionRead × ℕ) Refusal} (Ok (y, i)) (Ok (z, j)) → y ≡ z
+same-action {y} {z} {i} {j} e = let both : ◌≡◌ {A = ActionRead × ℕ} (y, i) (z, j) = cc e in ap (λ (b : ActionRead × ℕ). b.0) both
 
 none-at : (p : Program) (k : ℕ) → length p.actions ≤ k → action_of p k ≡ none_action
 none-at p k l = get_or-eq_default p.actions none_action l
 
 abbrev made : ℕ → List Row → List Row → Source
 made n rs new = record { count = n; rows = rs; new = new }
-
--- one element more, taken over from another list
-pub front_more : {A : Type 0} (xs ys : List A) (i : ℕ) (d : A) → i < length xs → i < length ys → take i ys ≡ take i xs → take (i + 1) (set ys i (get_or xs i d)) ≡ take (i + 1) xs
-front_more {A} xs ys i d h l e = rw (add-one i) (take-suc-set ys i (get_or xs i d) l ∙ ap (λ (zs : List A). zs ++ (get_or xs i d ∷ [])) e ∙ sym (take-suc xs i d h))
 
 -- the first eight of fourteen rows that at most eight were stored in
 eight-stored : (rs : List Row) → length rs ≤ 8 → take 8 (sets zero_rows 0 rs) ≡ sets eight_rows 0 rs
@@ -56,10 +65,6 @@ eight-stored rs few = ext_get_or zero_row (take 8 (sets zero_rows 0 rs)) (sets e
 offered : (p : Program) (k : ℕ) (b : Bool) (a : Action) → eqb k START ≡ b → action_of p k ≡ a
     → source_of p k ≡ made (length (cond b p.start a.guards)) (sets eight_rows 0 (cond b p.start a.guards)) (assigned keep_rows a.sets)
 offered p k b a e f = rw (e, f) refl
-
--- what is no source offers nothing
-pub sources_alike : (p : Program) → length p.actions ≤ 16 → (k : ℕ) → 16 ≤ k → (k ≡ START → ⊥) → source_of p k ≡ source_of p 254
-sources_alike p few k l n = offered p k false none_action (ne_eqb k START n) (none-at p k (omega arith)) ∙ sym (offered p 254 false none_action refl (none-at p 254 (omega arith)))
 
 -- ---- the shape of a source, from the image alone
 shaped : (p : Program) (k : ℕ) (b : Bool) (a : Action) → eqb k START ≡ b → action_of p k ≡ a
@@ -136,11 +141,15 @@ module _ (ws : List ℕ) {g : Image} (h : Held ws g) (k : ℕ) where
       pub place-within : (g.vars ≤ 8) × (place ≤ length ws) × (k < 16)
       place-within = (omega (arith, counts.2, counts.3), omega (arith, place_is, (action_k ws p k h.accepted known).here), omega (arith, known, counts.5))
 
-      pub action-source : {y : ActionRead} {rows : List Row} → y ≡ action_read (action g.vars true (drop place ws) place) → rows ≡ take 8 y.guard
+      pub action-read : action_read (action g.vars true (drop place ws) place) ≡ Ok (action_image (action_of p k), place + length (encode_action (action_of p k)))
+      action-read = rw (counts.2, place_is, (action_k ws p k h.accepted known).read) refl
+
+      pub action-source : {y : ActionRead} {j : ℕ} {rows : List Row} → ◌≡◌ {A = Result (ActionRead × ℕ) Refusal} (Ok (y, j)) (action_read (action g.vars true (drop place ws) place)) → rows ≡ take 8 y.guard
           → made y.guards rows y.rows ≡ source_of p k
-      action-source {y} {rows} e q =
+      action-source {y} {j} {rows} e q =
           let t = action_k ws p k h.accepted known in
-          let f = rw (counts.2, place_is, t.read) at e in
+          let s = rw (counts.2, place_is, t.read) at e in
+          let f : y ≡ action_image (action_of p k) = same-action s in
           let few : rows ≡ sets eight_rows 0 (action_of p k).guards =
           q ∙ ap (λ (z : ActionRead). take 8 z.guard) f ∙ eight-stored (action_of p k).guards (action-guards (length p.ranges) p.actions k h.accepted.good.actions.each).few in
           (λ i. made (f i).guards (few i) (f i).rows) ∙ sym (offered p k false (action_of p k) (ne_eqb k START n) refl)

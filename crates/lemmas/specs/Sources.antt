@@ -8,21 +8,17 @@
 -- one_if, literal_count, row_count   — 1 where a test holds; how many literals a set has; how many rows a lemma has
 -- lemma_read                         — a lemma and where reading goes on
 -- eight_rows                         — eight rows of zeros
--- Beginnings, no_begins, begins_from — where lemmas begin, how many and where reading goes on; none, and why; put behind those that are stored
--- BeginsAs                           — an answer and the list that was lent say this; nothing is said of the list where reading stopped
--- Listing, listed, ListedAs          — where each lemma of a list begins, or the refusal; an answer and the list that was lent say this
-use Rattle.std.specs.Prelude.{◌≡◌, Bool, false, cond, ◌&&◌, ◌||◌, not, List, [], ℕ, zero, suc, ◌+◌, eqb, ltb, length, get_or, replicate}
+-- BeginsAs, ListedAs                 — an answer says how many lemmas are read and where reading goes on, or how many a list has, and the list that was lent
+--                                      where each begins; or it is the refusal, and nothing is said of the list
+use Rattle.std.specs.Prelude.{◌≡◌, Result, Ok, Err, Bool, false, cond, ◌&&◌, ◌||◌, not, List, [], ℕ, zero, suc, ◌+◌, eqb, ltb, length, get_or, replicate}
 use Rattle.std.proofs.lemmas.List.Edits.{sets}
-use Rattle.words.specs.Words.{bits, no_literals}
+use Rattle.words.specs.Words.{bits}
 use Rattle.words.specs.declared.Refusal.{Refusal}
 use Rattle.grammar.specs.Reading.{Read, got, refused}
 use Rattle.grammar.specs.Programs.{Program}
 use Rattle.grammar.specs.Grammar.{literals_allowed}
 use Rattle.grammar.proofs.ProgramLaws.{Accepted}
-use Rattle.reader.specs.declared.Next.{Next}
-use Rattle.reader.specs.declared.Next.TheVariants.{At}
-use Rattle.reader.specs.declared.Next.TheVariants.{Refused as Stopped}
-use Rattle.reader.specs.Results.{zero_row}
+use Rattle.reader.specs.Results.{outcome, zero_row}
 use Rattle.rows.specs.declared.Row.{Row}
 use Rattle.actions.specs.Results.{variables_set, none_set}
 use Rattle.programs.specs.Calls.{read}
@@ -30,16 +26,12 @@ use Rattle.programs.specs.Images.{image_of}
 use Rattle.programs.specs.Places.{places}
 use Rattle.programs.specs.declared.Image.{Image}
 use Rattle.programs.specs.declared.Shape.{Shape}
-use Rattle.programs.specs.declared.Status.{Status}
-use Rattle.programs.specs.declared.Status.TheVariants.{Ready, Failed}
 use Rattle.words.specs.LiteralSets.{has}
 use Rattle.runs.specs.Runs.{action_of}
 use Rattle.lemmas.specs.Lemmas.{goal_number, Lemma, START, source_rows, new_rows}
 use Rattle.lemmas.specs.LemmaGrammar.{encode_lemma}
 use Rattle.lemmas.specs.declared.Source.{Source}
 use Rattle.lemmas.specs.declared.LemmaRead.{LemmaRead}
-use Rattle.lemmas.specs.declared.Begins.{Begins}
-use Rattle.lemmas.specs.declared.Listed.{Listed}
 
 abbrev pub program_of : Read Program → Program
 program_of (got p ws i) = p
@@ -92,33 +84,14 @@ literal_count i (suc n) set = one_if (has i set) + (one_if (has (14 + i) set) + 
 abbrev pub row_count : ℕ → ℕ → ℕ → ℕ → ℕ
 row_count goal preds set count = one_if (not (eqb goal 0)) + (literal_count 0 preds set + count)
 
-abbrev pub lemma_read : Read Lemma → LemmaRead
-lemma_read (got l ws j) = record { source = l.source; goal = goal_number l.goal; index = l.index; premises = l.premises; next = At j }
-lemma_read (refused x) = record { source = 0; goal = 0; index = 0; premises = no_literals; next = Stopped x }
+abbrev pub lemma_read : Read Lemma → Result (LemmaRead × ℕ) Refusal
+lemma_read m = outcome (λ l i. (record { source = l.source; goal = goal_number l.goal; index = l.index; premises = l.premises }, i)) m
 
-pub record Beginnings : Type 0 where
-  pub begin : List ℕ
-  pub count : ℕ
-  pub next : Next
+-- where the lemmas begin is put into a list that was `ns`
+abbrev pub BeginsAs : List ℕ → Read (List Lemma) → Result (ℕ × ℕ) Refusal → List ℕ → Type 0
+BeginsAs ns (got ls ws j) r l = (r ≡ Ok (length ls, j)) × (l ≡ sets ns 0 (places encode_lemma 0 ls))
+BeginsAs ns (refused x) r l = r ≡ Err x
 
-abbrev pub no_begins : Refusal → Beginnings
-no_begins x = record { begin = []; count = 0; next = Stopped x }
-
-abbrev pub begins_from : List ℕ → ℕ → ℕ → Read (List Lemma) → Beginnings
-begins_from ns k i (got ls ws j) = record { begin = sets ns k (places encode_lemma i ls); count = k + length ls; next = At j }
-begins_from ns k i (refused x) = no_begins x
-
-abbrev pub BeginsAs : Beginnings → Begins → List ℕ → Type 0
-BeginsAs b r l = (r.count ≡ b.count) × (r.next ≡ b.next) × ((j : ℕ) → b.next ≡ At j → l ≡ b.begin)
-
-pub record Listing : Type 0 where
-  pub status : Status
-  pub begin : List ℕ
-  pub count : ℕ
-
-abbrev pub listed : List ℕ → Read (List Lemma) → Listing
-listed ns (got ls ws j) = record { status = Ready; begin = sets ns 0 (places encode_lemma 0 ls); count = length ls }
-listed ns (refused x) = record { status = Failed x; begin = []; count = 0 }
-
-abbrev pub ListedAs : Listing → Listed → List ℕ → Type 0
-ListedAs x r l = (r.status ≡ x.status) × (r.count ≡ x.count) × (x.status ≡ Ready → l ≡ x.begin)
+abbrev pub ListedAs : List ℕ → Read (List Lemma) → Result ℕ Refusal → List ℕ → Type 0
+ListedAs ns (got ls ws j) r l = (r ≡ Ok (length ls)) × (l ≡ sets ns 0 (places encode_lemma 0 ls))
+ListedAs ns (refused x) r l = r ≡ Err x

@@ -1,11 +1,8 @@
--- The coefficients below v are zero where they are marked, or not. The measure is what is left of the eight.
+-- The coefficients so far are zero where they are marked, or not.
 use mathlib.Core.Path.{◌≡◌}
-use Prim.Native.Nat.{◌≤◌, ◌-◌}
+use lib.ListN.{length}
 use Rattle.frame.specs.Masks.{clear_below}
 use Rattle.frame.proofs.is_clear.Given as goal
 
-abbrev pub invariant-loop-v : goal.invariant-loop-v
-invariant-loop-v l = (l.v ≤ 8) × (l.clear ≡ clear_below l.set l.coef l.v)
-
-abbrev pub decreases-loop-v : goal.decreases-loop-v
-decreases-loop-v l = 8 - l.v
+abbrev pub invariant-loop-marked : goal.invariant-loop-marked
+invariant-loop-marked l = l.clear ≡ clear_below l.fn.set l.fn.row.coef (length l.yielded)

@@ -1,8 +1,6 @@
--- The mask has both literals of the untouched predicates below j. The measure is what is left of n.
-use mathlib.Core.Path.{◌≡◌, refl, sym, ◌∙◌}
+use mathlib.Core.Path.{refl, sym, ◌∙◌}
 use mathlib.Core.Bool.{Bool}
 use Prim.Native.Nat.{ℕ, ◌+◌}
-use native.Mathlib.Omega.{arith}
 use lib.ListN.{get_or}
 use Rattle.rows.specs.Bounds.{no_row}
 use Rattle.frame.specs.Masks.{clear_below}
@@ -13,24 +11,14 @@ use Rattle.frame.proofs.mask_by.Goals.{then-is_clear, else-is_clear}
 
 pub loop-j-init : goal.loop-j-init
 unfolding pairs_to
-loop-j-init c = (omega arith, refl)
-
-pub is_clear-requires : goal.is_clear-requires
-is_clear-requires c = c.requires.1 c.loop-j.j
+loop-j-init c = refl
 
 pub loop-j-preserved : goal.loop-j-preserved
 loop-j-preserved c =
     let a = c.args in
-    let clear : ℕ → Bool = λ j. clear_below a.set (get_or a.predicates j no_row).coef 8 in
-    let is = c.is_clear.ensures in (
-      omega arith,
-      elim c.if-is_clear.branch [
-        | then-is_clear w ↦ rw w.mask-is (pair-more (λ j. j) (λ j. 14 + j) clear c.loop-j.j c.loop-j.mask c.loop-j.invariant.1 (sym is ∙ w.if-is_clear.true) w.with_both-mask.result w.with_both-mask.ensures)
-        | else-is_clear w ↦ rw w.mask-is (pair_same (λ j. j) (λ j. 14 + j) clear c.loop-j.j c.loop-j.mask c.loop-j.invariant.1 (sym is ∙ w.if-is_clear.false))
-      ],
-    )
-
-pub returns : goal.returns
-returns c =
-    let all : c.loop-j.j ≡ c.args.n = omega arith in
-    rw all at c.loop-j.invariant.1
+    let clear : ℕ → Bool = λ j. clear_below a.set (get_or a.predicates.now j no_row).coef 8 in
+    let is = c.is_clear.ensures in
+    elim c.if-is_clear.branch [
+      | then-is_clear w ↦ rw w.mask-is (pair-more (λ j. j) (λ j. 14 + j) clear c.loop-j.j c.loop-j.mask c.loop-j.invariant (sym is ∙ w.if-is_clear.true) w.with_both-mask.result w.with_both-mask.ensures)
+      | else-is_clear w ↦ rw w.mask-is (pair_same (λ j. j) (λ j. 14 + j) clear c.loop-j.j c.loop-j.mask c.loop-j.invariant (sym is ∙ w.if-is_clear.false))
+    ]

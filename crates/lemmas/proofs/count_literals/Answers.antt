@@ -1,15 +1,6 @@
 use native.Mathlib.Omega.{arith}
-use Rattle.lemmas.proofs.HeadLaws.{counting-none, counting-next, counting-all}
+use Rattle.lemmas.proofs.HeadLaws.{counting-next, counting-all}
 use Rattle.lemmas.proofs.count_literals.Goals as goal
-
-pub loop-i-init : goal.loop-i-init
-loop-i-init c = counting-none c.args.n c.args.set
-
-pub overflow_add-total : goal.overflow_add-total
-overflow_add-total c = let b = c.bit.ensures.1 in omega (arith, c.loop-i.invariant.small, c.requires)
-
-pub overflow_add-total-in-loop-i : goal.overflow_add-total-in-loop-i
-overflow_add-total-in-loop-i c = let b = c.bit.ensures.1 in let d = c.bit-in-loop-i.ensures.1 in omega (arith, c.loop-i.invariant.small, c.requires)
 
 pub loop-i-preserved : goal.loop-i-preserved
 loop-i-preserved c =

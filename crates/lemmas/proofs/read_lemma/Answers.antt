@@ -1,66 +1,59 @@
-use mathlib.Core.Path.{◌≡◌, refl, sym, ap, ◌∙◌}
+use mathlib.Core.Path.{◌≡◌, refl, ap, ◌∙◌}
 use mathlib.Core.Bool.{Bool, true}
-use mathlib.Core.List.{[]}
+use mathlib.Core.List.{List}
 use Prim.Native.Nat.{ℕ, ◌+◌}
+use lib.ListN.{drop}
+use Rattle.words.specs.Words.{LEMMA, SETS}
 use native.Mathlib.Omega.{arith}
-use lib.ListN.{length, get_or, drop}
-use Rattle.words.specs.Words.{bits, payload, LEMMA, SETS}
+use Rattle.std.specs.Prelude.{Result}
+use Rattle.std.proofs.lemmas.Result.{err_from_is_err_and}
+use Rattle.words.specs.declared.Refusal.{Refusal}
 use Rattle.grammar.specs.Reading.{one, times}
 use Rattle.reader.specs.Results.{next_of}
-use Rattle.lemmas.specs.Lemmas.{rows_of}
-use Rattle.lemmas.specs.LemmaGrammar.{head_allowed, premises_allowed, multiplier, lemma_of}
+use Rattle.lemmas.specs.LemmaGrammar.{multiplier}
 use Rattle.lemmas.specs.Sources.{the_program}
-use Rattle.lemmas.proofs.HeadLaws.{head-known, premises-known, rows-known, source-few}
+use Rattle.lemmas.proofs.HeadLaws.{head-known, premises-known, rows-known}
 use Rattle.lemmas.proofs.ListLaws.{head-stopped, premises-stopped, premises-within, mults-refused, lemma-taken}
 use Rattle.lemmas.proofs.read_lemma.Goals as goal
-use Rattle.lemmas.proofs.read_lemma.Goals.{After-read_mults, After-read_word-next, After-read_word-next-2}
 
-head-is : (c : After-read_word-next) → let s = c.args in
-    c.read_word-next.result ≡ next_of (one LEMMA (λ x. true) (λ x. s.room) (λ x. head_allowed (the_program s.words.now) (get_or s.lemmas.now s.at 0)) (drop s.at s.lemmas.now) s.at)
-head-is c =
-    c.read_word-next.ensures ∙ ap (λ (b : Bool). next_of (one LEMMA (λ x. true) (λ x. c.args.room) (λ x. b) (drop c.args.at c.args.lemmas.now) c.args.at))
-    (c.head_allowed-allowed.ensures ∙ head-known c.args.words.now c.requires.0 _ 0 c.word_at-w.ensures refl c.source-number.ensures c.goal-goal.ensures c.requires.2)
+-- what was read, by what the test and the number are
+word_is : (kind : ℕ) (room : Bool) (ws : List ℕ) (i : ℕ) {a b : Bool} {x : Result ℕ Refusal} → a ≡ b → x ≡ next_of (one kind (λ w. true) (λ w. room) (λ w. a) ws i)
+    → x ≡ next_of (one kind (λ w. true) (λ w. room) (λ w. b) ws i)
+word_is kind room ws i q e = e ∙ ap (λ (b : Bool). next_of (one kind (λ w. true) (λ w. room) (λ w. b) ws i)) q
 
-premises-is : (c : After-read_word-next-2) → let s = c.args in
-    c.read_word-next-2.result ≡ next_of (one SETS (λ x. true) (λ x. true) (λ x. premises_allowed (the_program s.words.now) (bits 27 20 (get_or s.lemmas.now s.at 0)) (payload (get_or s.lemmas.now (s.at + 1) 0))) (drop (s.at + 1) s.lemmas.now) (s.at + 1))
-premises-is c =
-    c.read_word-next-2.ensures ∙ ap (λ (b : Bool). next_of (one SETS (λ x. true) (λ x. true) (λ x. b) (drop (c.args.at + 1) c.args.lemmas.now) (c.args.at + 1)))
-    (c.premises_allowed-fine.ensures ∙ premises-known c.args.words.now c.requires.0 _ _ c.word_at-w.ensures c.word_at-s.ensures c.source-number.ensures c.goal-goal.ensures c.requires.2)
+mults-are : (ws : List ℕ) (i : ℕ) {m n : ℕ} {x : Result ℕ Refusal} → m ≡ n → x ≡ next_of (times m multiplier ws i) → x ≡ next_of (times n multiplier ws i)
+mults-are ws i q e = e ∙ ap (λ (n : ℕ). next_of (times n multiplier ws i)) q
 
-mults-is : (c : After-read_mults) → let s = c.args in
-    c.read_mults.result ≡ next_of (times (length (rows_of (the_program s.words.now) (lemma_of (get_or s.lemmas.now s.at 0) (get_or s.lemmas.now (s.at + 1) 0) []))) multiplier (drop (s.at + 2) s.lemmas.now) (s.at + 2))
-mults-is c =
-    c.read_mults.ensures ∙ ap (λ (n : ℕ). next_of (times n multiplier (drop (c.args.at + 2) c.args.lemmas.now) (c.args.at + 2)))
-    (c.count_rows-n.ensures ∙ rows-known c.args.words.now c.requires.0 _ _ c.word_at-w.ensures c.word_at-s.ensures c.source-number.ensures c.goal-goal.ensures c.requires.2)
+pub returns-in_err-read_word : goal.returns-in_err-read_word
+returns-in_err-read_word c =
+    let head = word_is LEMMA c.args.room (drop c.args.at c.args.lemmas.now) c.args.at (c.head_allowed-allowed.ensures ∙ head-known c.args.loaded.now.words.now c.args.loaded.now.held _ 0 c.word_at-w.ensures refl c.source-source.ensures c.goal-goal.ensures c.requires.1) c.in_err-read_word.ensures in
+    let p = err_from_is_err_and c.from_residual.result c.from_residual.ensures.1 in
+    rw (p.1, p.2) (head-stopped (the_program c.args.loaded.now.words.now) c.args.room c.args.lemmas.now c.args.at head)
 
-pub returns-in-Refused : goal.returns-in-Refused
-returns-in-Refused c =
-    c.no_lemma.ensures ∙ head-stopped (the_program c.args.words.now) c.args.room c.args.lemmas.now c.args.at (sym (head-is (goal.at.returns-in-Refused c).After-read_word-next) ∙ c.in-Refused.is)
-
-pub premises_allowed-fine-requires : goal.premises_allowed-fine-requires
-premises_allowed-fine-requires c =
-    (source-few c.args.words.now c.requires.0 _ 0 c.word_at-w.ensures refl c.source-number.ensures c.goal-goal.ensures c.requires.2).0
-
-pub returns-in-Refused-next : goal.returns-in-Refused-next
-returns-in-Refused-next c =
-    c.no_lemma-in-Refused-next.ensures ∙ premises-stopped (the_program c.args.words.now) c.args.room c.args.lemmas.now c.args.at (sym (head-is (goal.at.returns-in-Refused-next c).After-read_word-next) ∙ c.in_default.is) (sym (premises-is (goal.at.returns-in-Refused-next c).After-read_word-next-2) ∙ c.in-Refused-next.is)
-
-pub count_rows-n-requires : goal.count_rows-n-requires
-count_rows-n-requires c =
-    source-few c.args.words.now c.requires.0 _ 0 c.word_at-w.ensures refl c.source-number.ensures c.goal-goal.ensures c.requires.2
-
-pub overflow_add-at-4 : goal.overflow_add-at-4
-overflow_add-at-4 c =
-    let w = premises-within (the_program c.args.words.now) c.args.room c.args.lemmas.now c.args.at (sym (head-is (goal.at.overflow_add-at-4 c).After-read_word-next) ∙ c.in_default.is) (sym (premises-is (goal.at.overflow_add-at-4 c).After-read_word-next-2) ∙ c.in_default-next.is) in omega (arith, c.well_formed.1.1.1.0.0)
+pub returns-in_err-read_word-2 : goal.returns-in_err-read_word-2
+returns-in_err-read_word-2 c =
+    let head = word_is LEMMA c.args.room (drop c.args.at c.args.lemmas.now) c.args.at (c.head_allowed-allowed.ensures ∙ head-known c.args.loaded.now.words.now c.args.loaded.now.held _ 0 c.word_at-w.ensures refl c.source-source.ensures c.goal-goal.ensures c.requires.1) c.in_ok-read_word.ensures in
+    let premises = word_is SETS true (drop (c.args.at + 1) c.args.lemmas.now) (c.args.at + 1) (c.premises_allowed-fine.ensures ∙ premises-known c.args.loaded.now.words.now c.args.loaded.now.held _ _ c.word_at-w.ensures c.word_at-s.ensures c.source-source.ensures c.goal-goal.ensures c.requires.1) c.in_err-read_word-2.ensures in
+    let p = err_from_is_err_and c.from_residual-in_err-read_word-2.result c.from_residual-in_err-read_word-2.ensures.1 in
+    rw (p.1, p.2) (premises-stopped (the_program c.args.loaded.now.words.now) c.args.room c.args.lemmas.now c.args.at head premises)
 
 pub read_mults-requires : goal.read_mults-requires
 read_mults-requires c =
-    let w = premises-within (the_program c.args.words.now) c.args.room c.args.lemmas.now c.args.at (sym (head-is (goal.at.read_mults-requires c).After-read_word-next) ∙ c.in_default.is) (sym (premises-is (goal.at.read_mults-requires c).After-read_word-next-2) ∙ c.in_default-next.is) in omega arith
+    let head = word_is LEMMA c.args.room (drop c.args.at c.args.lemmas.now) c.args.at (c.head_allowed-allowed.ensures ∙ head-known c.args.loaded.now.words.now c.args.loaded.now.held _ 0 c.word_at-w.ensures refl c.source-source.ensures c.goal-goal.ensures c.requires.1) c.in_ok-read_word.ensures in
+    let premises = word_is SETS true (drop (c.args.at + 1) c.args.lemmas.now) (c.args.at + 1) (c.premises_allowed-fine.ensures ∙ premises-known c.args.loaded.now.words.now c.args.loaded.now.held _ _ c.word_at-w.ensures c.word_at-s.ensures c.source-source.ensures c.goal-goal.ensures c.requires.1) c.in_ok-read_word-2.ensures in
+    omega (arith, premises-within (the_program c.args.loaded.now.words.now) c.args.room c.args.lemmas.now c.args.at head premises)
 
-pub returns-in-Refused-read_mults : goal.returns-in-Refused-read_mults
-returns-in-Refused-read_mults c =
-    c.no_lemma-in-Refused-read_mults.ensures ∙ mults-refused (the_program c.args.words.now) c.args.room c.args.lemmas.now c.args.at (sym (head-is (goal.at.returns-in-Refused-read_mults c).After-read_word-next) ∙ c.in_default.is) (sym (premises-is (goal.at.returns-in-Refused-read_mults c).After-read_word-next-2) ∙ c.in_default-next.is) (sym (mults-is (goal.at.returns-in-Refused-read_mults c).After-read_mults) ∙ c.in-Refused-read_mults.is)
+pub returns-in_err-next : goal.returns-in_err-next
+returns-in_err-next c =
+    let head = word_is LEMMA c.args.room (drop c.args.at c.args.lemmas.now) c.args.at (c.head_allowed-allowed.ensures ∙ head-known c.args.loaded.now.words.now c.args.loaded.now.held _ 0 c.word_at-w.ensures refl c.source-source.ensures c.goal-goal.ensures c.requires.1) c.in_ok-read_word.ensures in
+    let premises = word_is SETS true (drop (c.args.at + 1) c.args.lemmas.now) (c.args.at + 1) (c.premises_allowed-fine.ensures ∙ premises-known c.args.loaded.now.words.now c.args.loaded.now.held _ _ c.word_at-w.ensures c.word_at-s.ensures c.source-source.ensures c.goal-goal.ensures c.requires.1) c.in_ok-read_word-2.ensures in
+    let mults = mults-are (drop (c.args.at + 2) c.args.lemmas.now) (c.args.at + 2) (c.count_rows-n.ensures ∙ rows-known c.args.loaded.now.words.now c.args.loaded.now.held _ _ c.word_at-w.ensures c.word_at-s.ensures c.source-source.ensures c.goal-goal.ensures c.requires.1) c.in_err-next.ensures in
+    let p = err_from_is_err_and c.from_residual-in_err-next.result c.from_residual-in_err-next.ensures.1 in
+    rw (p.1, p.2) (mults-refused (the_program c.args.loaded.now.words.now) c.args.room c.args.lemmas.now c.args.at head premises mults)
 
-pub returns-in-At : goal.returns-in-At
-returns-in-At c =
-    rw (c.of.ensures, c.index.ensures, c.goal-goal.ensures, c.source-number.ensures, c.word_at-s.ensures, c.word_at-w.ensures) (lemma-taken (the_program c.args.words.now) c.args.room c.args.lemmas.now c.args.at (sym (head-is (goal.at.returns-in-At c).After-read_word-next) ∙ c.in_default.is) (sym (premises-is ((goal.at.returns-in-At c).After-read_word-next-2)) ∙ c.in_default-next.is) (sym (mults-is ((goal.at.returns-in-At c).After-read_mults)) ∙ c.in-At.is))
+pub returns : goal.returns
+returns c =
+    let head = word_is LEMMA c.args.room (drop c.args.at c.args.lemmas.now) c.args.at (c.head_allowed-allowed.ensures ∙ head-known c.args.loaded.now.words.now c.args.loaded.now.held _ 0 c.word_at-w.ensures refl c.source-source.ensures c.goal-goal.ensures c.requires.1) c.in_ok-read_word.ensures in
+    let premises = word_is SETS true (drop (c.args.at + 1) c.args.lemmas.now) (c.args.at + 1) (c.premises_allowed-fine.ensures ∙ premises-known c.args.loaded.now.words.now c.args.loaded.now.held _ _ c.word_at-w.ensures c.word_at-s.ensures c.source-source.ensures c.goal-goal.ensures c.requires.1) c.in_ok-read_word-2.ensures in
+    let mults = mults-are (drop (c.args.at + 2) c.args.lemmas.now) (c.args.at + 2) (c.count_rows-n.ensures ∙ rows-known c.args.loaded.now.words.now c.args.loaded.now.held _ _ c.word_at-w.ensures c.word_at-s.ensures c.source-source.ensures c.goal-goal.ensures c.requires.1) c.in_ok-next.ensures in
+    rw (c.of.ensures, c.index.ensures, c.goal-goal.ensures, c.source-source.ensures, c.word_at-s.ensures, c.word_at-w.ensures) (lemma-taken (the_program c.args.loaded.now.words.now) c.args.room c.args.lemmas.now c.args.at head premises mults)
