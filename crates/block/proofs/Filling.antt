@@ -2,20 +2,21 @@
 use mathlib.Core.Path.{◌≡◌, refl, sym, ap, ◌∙◌}
 use mathlib.Core.Bool.{Bool, true, false, cond}
 use mathlib.Core.Logic.{⊎_elim, ◌↔◌}
-use mathlib.Core.List.{List}
+use mathlib.Core.List.{List, []}
 use Prim.Native.Nat.{ℕ, zero, suc, ◌+◌, ◌*◌, ◌/◌, ◌%◌, ◌^◌, ◌<◌, ◌≤◌, max, min}
 use native.Mathlib.Nat.{lt_of_le_of_lt, zero-mul, one-mul}
 use native.Mathlib.Omega.{arith}
 use native.Mathlib.Decide.{dec_lt, ℕ_discrete}
-use lib.ListN.{length, get_or, set, length-set}
+use lib.ListN.{length, get_or, set, take, length-set}
 use lib.Seq.{get_or-set_same, get_or-set_other}
 use lib.Bits.{bit_and, bit_or, and_le_l}
 use borrow.Author.Count.{below_more}
 use borrow.Author.Tests.{eqb-true, eq-eqb, ne_eqb}
 use Rattle.sets.specs.Sets.{bit_of, Member, within}
 use Rattle.sets.proofs.Bits.{bit_lt, zero_or_one, bit-and, bit-or, bit-zero, bit_pow, bit_pow_only, same_digits}
-use Rattle.gather.specs.Gathering.{Entry, entry_at, entries, with_entry, gather_from}
-use Rattle.gather.proofs.Tables.{gather-next}
+use Rattle.gather.specs.Gathering.{with_entry, gather_from}
+use Rattle.gather.specs.declared.Entry.{Entry}
+use Rattle.gather.proofs.Tables.{no_entry, gather-next}
 use Rattle.gather.proofs.Shown.{never}
 use Rattle.block.proofs.Meeting.{member_below}
 use Rattle.block.specs.Blocks.{Columns, Meets, Row, Rows, after, Block, digit}
@@ -34,7 +35,7 @@ pub told : (x : ℕ) (b : Bool) → x < 2 → (b ≡ true → x ≡ 1) → (x �
 told x true l to back = to refl
 told x false l to back = ⊎_elim (λ z. z) (λ m. never (back m)) (zero_or_one l)
 
-met : {nodes cols : List ℕ} (p q : ℕ) → Columns nodes cols → p < 2 ^ 32 → Meets cols 0 p q → (i : ℕ) → i < 64 → bit_of i q ≡ digit (within p (get_or nodes i 0))
+pub met : {nodes cols : List ℕ} (p q : ℕ) → Columns nodes cols → p < 2 ^ 32 → Meets cols 0 p q → (i : ℕ) → i < 64 → bit_of i q ≡ digit (within p (get_or nodes i 0))
 met {nodes} {cols} p q k h f i l = told (bit_of i q) (within p (get_or nodes i 0)) (bit_lt i q) to back
   where
     below : (c : ℕ) → Member c p → c < 32
@@ -78,15 +79,6 @@ aside k n g e h = elim (ℕ_discrete (e.key / 64) (k / 64)) [
     either q false = refl
 
 -- ---- what is kept
-pub there : (m p x : ℕ) → m / 2 ^ p % 2 ≡ 1 → x ≡ bit_of p m * x
-there m p x h = let e : bit_of p m ≡ 1 = h in rw e (sym (one-mul x))
-
-pub not_there : (m p x : ℕ) → (m / 2 ^ p % 2 ≡ 1 → ⊥) → 0 ≡ bit_of p m * x
-not_there m p x h = let e : bit_of p m ≡ 0 = ⊎_elim (λ z. z) (λ z. absurd (h z)) (zero_or_one (bit_lt p m)) in rw e (sym (zero-mul x))
-
-pub row-none : (t : List ℕ) (at m : ℕ) (cols : List ℕ) → Row t at m cols 0 t
-row-none t at m cols = record { long = refl; inside = λ q h. absurd (omega arith); before = λ n h. refl }
-
 pub row_next : {t t' cols : List ℕ} {at m : ℕ} (p : ℕ) → Row t at m cols p t' → at + p < length t → (x : ℕ) → x ≡ bit_of p m * get_or cols p 0 → Row t at m cols (p + 1) (set t' (at + p) x)
 row_next {t} {t'} {cols} {at} {m} p r h x e =
     let long = r.long in
@@ -95,9 +87,6 @@ row_next {t} {t'} {cols} {at} {m} p r h x e =
       inside = below_more _ _ (λ q l. get_or-set_other t' (at + p) (at + q) x 0 (λ e. omega arith) ∙ r.inside q l) (get_or-set_same t' (at + p) x 0 (omega arith) ∙ e);
       before = λ n l. get_or-set_other t' (at + p) n x 0 (λ e. omega arith) ∙ r.before n l;
     }
-
-pub rows_none : (kept cols t : List ℕ) → 1024 ≤ length t → Rows kept cols 0 t
-rows_none kept cols t h = record { long = h; same = λ k l. absurd (omega arith) }
 
 pub rows_next : {kept cols t t' : List ℕ} (a m : ℕ) → Rows kept cols a t → m ≡ get_or kept a 0 → Row t (a * 64) m cols 64 t' → Rows kept cols (a + 1) t'
 rows_next {kept} {cols} {t} {t'} a m f e r = record {
@@ -123,9 +112,9 @@ both_bits (suc zero) y h l = omega arith
 both_bits (suc (suc x)) y h l = absurd (omega arith)
 
 -- ---- the loop
-pub block_none : (kept nodes cols ps ks t : List ℕ) → Columns nodes cols → Rows kept cols 16 t → Block kept nodes (entries ps ks 0) t
-unfolding entries gather_from
-block_none kept nodes cols ps ks t c f = record {
+pub block_none : (kept nodes cols t : List ℕ) → Columns nodes cols → Rows kept cols 16 t → Block kept nodes [] t
+unfolding gather_from
+block_none kept nodes cols t c f = record {
   long = f.long;
   same = λ i k li lk.
       let m = get_or kept (k / 64) 0 in
@@ -134,18 +123,21 @@ block_none kept nodes cols ps ks t c f = record {
       ap (bit_of i) (f.same k (omega arith)) ∙ times_bit i (bit_of q m) (get_or cols q 0) (bit_lt q m) ∙ ap (λ (b : ℕ). bit_of q m * b) (c.same i q li (omega arith)) ∙ both_bits (bit_of q m) (bit_of q n) (bit_lt q m) (bit_lt q n) ∙ sym (bit-and q n m);
 }
 
-module _ (kept nodes ps ks : List ℕ) (i : ℕ) {t : List ℕ} (b : Block kept nodes (entries ps ks i) t) where
+module _ (kept nodes : List ℕ) (es : List Entry) (i : ℕ) (h : i < length es) {t : List ℕ} (b : Block kept nodes (take i es) t) where
+  abbrev here : Entry
+  here = get_or es i no_entry
+
   -- what is known after action a at a node, of the first j entries
   abbrev at : ℕ → ℕ → ℕ → ℕ
-  at a n j = after kept a n (entries ps ks j)
+  at a n j = after kept a n (take j es)
 
-  next : (a n : ℕ) → at a n (i + 1) ≡ with_entry a n (at a n i) (entry_at ps ks i)
-  next a n = gather-next a n (bit_and n (get_or kept a 0)) ps ks i
+  next : (a n : ℕ) → at a n (i + 1) ≡ with_entry a n (at a n i) here
+  next a n = gather-next a n (bit_and n (get_or kept a 0)) es i h
 
-  pub block-hit : (cols : List ℕ) (p q : ℕ) → Columns nodes cols → get_or ks i 0 < 1024 → (p ≡ get_or ps i 0) × (p < 2 ^ 32) → Meets cols 0 p q
-      → Block kept nodes (entries ps ks (i + 1)) (set t (get_or ks i 0) (bit_or (get_or t (get_or ks i 0) 0) q))
-  block-hit cols p q c l f m =
-      let key = get_or ks i 0 in
+  pub block-hit : (q : ℕ) → here.key < 1024 → ((x : ℕ) → x < 64 → bit_of x q ≡ digit (within here.premises (get_or nodes x 0)))
+      → Block kept nodes (take (i + 1) es) (set t here.key (bit_or (get_or t here.key 0) q))
+  block-hit q l m =
+      let key = here.key in
       let w = bit_or (get_or t key 0) q in
       let long = b.long in
       record {
@@ -153,17 +145,17 @@ module _ (kept nodes ps ks : List ℕ) (i : ℕ) {t : List ℕ} (b : Block kept 
         same = λ x k lx lk.
             let n = get_or nodes x 0 in
             elim (ℕ_discrete k key) [
-              | yes e ↦ rw e (ap (bit_of x) (get_or-set_same t key w 0 (omega arith)) ∙ bit-or x (get_or t key 0) q ∙ rw (b.same x key lx l, met p q c f.1 m x lx, f.0) (sym (ap (bit_of (key % 64)) (next (key / 64) n) ∙ own n (at (key / 64) n i) (entry_at ps ks i))))
-              | no e ↦ ap (bit_of x) (get_or-set_other t key k w 0 e) ∙ b.same x k lx lk ∙ sym (ap (bit_of (k % 64)) (next (k / 64) n) ∙ aside k n (at (k / 64) n i) (entry_at ps ks i) e)
+              | yes e ↦ rw e (ap (bit_of x) (get_or-set_same t key w 0 (omega arith)) ∙ bit-or x (get_or t key 0) q ∙ rw (b.same x key lx l, m x lx) (sym (ap (bit_of (key % 64)) (next (key / 64) n) ∙ own n (at (key / 64) n i) here)))
+              | no e ↦ ap (bit_of x) (get_or-set_other t key k w 0 e) ∙ b.same x k lx lk ∙ sym (ap (bit_of (k % 64)) (next (k / 64) n) ∙ aside k n (at (k / 64) n i) here e)
             ];
       }
 
-  pub block-miss : 1024 ≤ get_or ks i 0 → Block kept nodes (entries ps ks (i + 1)) t
+  pub block-miss : 1024 ≤ here.key → Block kept nodes (take (i + 1) es) t
   block-miss l = record {
     long = b.long;
     same = λ x k lx lk.
         let n = get_or nodes x 0 in
-        b.same x k lx lk ∙ sym (ap (bit_of (k % 64)) (next (k / 64) n) ∙ aside k n (at (k / 64) n i) (entry_at ps ks i) (λ e. omega arith));
+        b.same x k lx lk ∙ sym (ap (bit_of (k % 64)) (next (k / 64) n) ∙ aside k n (at (k / 64) n i) here (λ e. omega arith));
   }
 
 -- ---- the table by actions and places

@@ -6,7 +6,7 @@ use mathlib.Core.List.{List}
 use Prim.Native.Nat.{ℕ, zero, suc, ◌+◌, ◌*◌, ◌/◌, ◌%◌, ◌^◌, ◌<◌}
 use native.Mathlib.Omega.{arith}
 use native.Mathlib.Decide.{ℕ_discrete}
-use lib.ListN.{length, get_or, set, length-set, replicate}
+use lib.ListN.{length, get_or, set, length-set}
 use lib.Seq.{get_or-set_same, get_or-set_other}
 use borrow.Author.Tests.{eqb-true, eq-eqb}
 use Rattle.sets.specs.Sets.{bit_of, Member, apart}
@@ -15,18 +15,15 @@ use Rattle.sets.proofs.Laws.{mixed_is}
 use lib.Bits.{bit_and, bit_or}
 use Rattle.gather.proofs.Shown.{never}
 use Rattle.block.proofs.Filling.{told, placed}
-use Rattle.gather.specs.Gathering.{Entry, blocked, successor_of}
-use Rattle.gather.specs.declared.Successor.TheVariants.{Nothing, Set}
+use Rattle.gather.specs.Gathering.{blocked}
+use Rattle.gather.specs.declared.Entry.{Entry}
 use Rattle.transpose.specs.Transposing.{Transposed}
-use Rattle.block.specs.Blocks.{after, Block, Words, half_of, none_of, digit, Gone}
+use Rattle.block.specs.Blocks.{after, Block, Words, half_of, none_of, Gone}
 
 -- p words of the table from `at` on, and p words 64 further on
 pub record Laid (t : List ℕ) (at p : ℕ) (a : List ℕ) : Type 0 where
   pub long : length a ≡ 64
   pub same : (q e : ℕ) → q < p → e < 2 → get_or a (32 * e + q) 0 ≡ get_or t (at + (64 * e + q)) 0
-
-pub laid_none : (t : List ℕ) (at : ℕ) → Laid t at 0 (replicate 64 0)
-laid_none t at = record { long = refl; same = λ q e l h. absurd (omega (arith, l)) }
 
 pub laid_next : {t a : List ℕ} {at : ℕ} (p : ℕ) → Laid t at p a → p < 32 → Laid t at (p + 1) (set (set a p (get_or t (at + p) 0)) (32 + p) (get_or t (at + (64 + p)) 0))
 laid_next {t} {a} {at} p f h =
@@ -71,9 +68,6 @@ module _ (h : ℕ) (kept nodes : List ℕ) (es : List Entry) {t a r : List ℕ} 
 -- p predicates asked, and the place that says that the action cannot happen
 pub record Mixed (t : List ℕ) (at p r : ℕ) : Type 0 where
   pub same : (i : ℕ) → i < 64 → Member i r ↔ (Member i (get_or t (at + 44) 0) ⊎ ((q : ℕ) × (q < p) × Member i (get_or t (at + q) 0) × Member i (get_or t (at + (14 + q)) 0)))
-
-pub mixed_none : (t : List ℕ) (at : ℕ) → Mixed t at 0 (get_or t (at + 44) 0)
-mixed_none t at = record { same = λ i l. (λ m. inl m, λ s. ⊎_elim (λ m. m) (λ w. absurd (omega (arith, w.1))) s) }
 
 pub mixed_next : {t : List ℕ} {at r : ℕ} (p : ℕ) → Mixed t at p r → Mixed t at (p + 1) (bit_or r (bit_and (get_or t (at + p) 0) (get_or t (at + (14 + p)) 0)))
 mixed_next {t} {at} {r} p f =
@@ -125,27 +119,3 @@ gone_made j kept nodes es {t} {r} hj b f = record {
       (λ n. back (⊎_elim (λ m. inl (placed b i j 44 l hj (omega arith) ∙ m)) (λ w. let (p, lp, m, n) = w in inr (p, lp, placed b i j p l hj (omega arith) ∙ m, placed b i j (14 + p) l hj (omega arith) ∙ n)) (there n)))
       (λ n. here (⊎_elim (λ m. inl (sym (placed b i j 44 l hj (omega arith)) ∙ m)) (λ w. let (p, lp, m, n) = w in inr (p, lp, sym (placed b i j p l hj (omega arith)) ∙ m, sym (placed b i j (14 + p) l hj (omega arith)) ∙ n)) (to n)));
 }
-
--- ---- a node's successor
-module _ (g x : ℕ) (h : x ≡ digit (none_of g)) where
-  pub nothing-there : x ≡ 1 → Nothing ≡ successor_of g
-  nothing-there m = go (none_of g) refl
-    where
-      go : (b : Bool) → none_of g ≡ b → Nothing ≡ successor_of g
-      go true e = rw e
-      go false e = absurd (omega (arith, m, h ∙ ap digit e))
-
-  pub set_there : (s : ℕ) → (x ≡ 1 → ⊥) → s ≡ g % 2 ^ 28 → Set s ≡ successor_of g
-  set_there s m f = go (none_of g) refl
-    where
-      go : (b : Bool) → none_of g ≡ b → Set s ≡ successor_of g
-      go true e = absurd (m (h ∙ ap digit e))
-      go false e = rw (e, f)
-
--- ---- a half of a word, by the action's number
-pub low_half : (w e : ℕ) → e ≡ 0 → w % 2 ^ 28 ≡ half_of w e
-low_half w e f = rw f
-
-pub high_half : (w e : ℕ) → e < 2 → (e ≡ 0 → ⊥) → w / 2 ^ 32 % 2 ^ 28 ≡ half_of w e
-high_half w zero l n = absurd (n refl)
-high_half w (suc e) l n = refl

@@ -15,7 +15,8 @@
 -- Gone        — a word with a bit for each node that has no successor by an action
 use Rattle.std.specs.Prelude.{◌≡◌, ◌↔◌, List, ℕ, zero, suc, ◌+◌, ◌*◌, ◌/◌, ◌%◌, ◌^◌, ◌<◌, ◌≤◌, Bool, true, false, not, ◌||◌, length, get_or}
 use Rattle.sets.specs.Sets.{bit_of, Member, apart}
-use Rattle.gather.specs.Gathering.{Entry, known, blocked}
+use Rattle.gather.specs.Gathering.{known, blocked}
+use Rattle.gather.specs.declared.Entry.{Entry}
 
 abbrev pub table_words : ℕ
 table_words = 1024

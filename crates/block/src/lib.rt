@@ -1,10 +1,12 @@
 // What the accepted lemmas show at 64 nodes at once.
 #![tactic(auto)]
 
-ghost use Rattle.std.specs.Prelude.{◌≡◌, List, ℕ, ◌+◌, ◌*◌, ◌%◌, ◌^◌, ◌<◌, ◌≤◌, length};
-ghost use Rattle.sets.specs.Sets.{bit_of, Member};
-ghost use Rattle.gather.specs.Gathering.{Entry, entries};
-ghost use Rattle.block.specs.Blocks.{table_words, Columns, Meets, Row, Rows, Block, Words, half_of, Gone};
+ghost use Rattle.std.specs.Prelude.{◌≡◌, List, ℕ, ◌+◌, ◌*◌, ◌%◌, ◌^◌, ◌<◌, ◌≤◌, length, get_or};
+ghost use Rattle.sets.specs.Sets.{bit_of, Member, within};
+ghost use Rattle.gather.specs.declared.Entry.{Entry};
+ghost use Rattle.block.specs.Blocks.{table_words, Columns, Meets, Row, Rows, Block, Words, half_of, digit, Gone};
+
+use gather::Entry;
 
 // How many words a table has: 64 places for each of 16 actions.
 pub const TABLE: usize = 1024;
@@ -12,22 +14,13 @@ pub const TABLE: usize = 1024;
 // Where so many nodes wait, a block is quicker than a pass over the entries for each.
 pub const LEAST: usize = 6;
 
-// The same number, wider.
-fn wide(x: u32) -> u64
-    ensures { (result ≡ x) × (result < 2 ^ 32) }
-{
-    x as u64
-}
-
 // The columns of 64 nodes' words.
 pub fn columns(nodes: &[u32; 64]) -> [u64; 64]
     ensures { Columns nodes.now result }
 {
-    let mut a = [0u64; 64];
-    let mut i: usize = 0;
-    while i < 64 {
-        a[i] = wide(nodes[i]);
-        i += 1;
+    let mut a = [0; 64];
+    for (i, node) in nodes.iter().enumerate() {
+        a[i] = u64::from(*node);
     }
     transpose::transpose(a)
 }
@@ -37,12 +30,13 @@ pub fn meet(words: &[u64], at: usize, set: u64) -> u64
     requires { (c : ℕ) → Member c set → at + c < length words.now }
     ensures { Meets words.now at set result }
 {
-    let mut q: u64 = 0xFFFF_FFFF_FFFF_FFFF;
+    let mut q = u64::MAX;
     let mut s = set;
+    // A while: no iterator goes over the ones of a word.
     while s != 0 {
-        let c = u64::trailing_zeros(s) as usize;
-        q = q & words[at + c];
-        s = s & (s - 1);
+        let c = s.trailing_zeros() as usize;
+        q &= words[at + c];
+        s &= s - 1;
     }
     q
 }
@@ -60,10 +54,8 @@ fn keep(table: &mut [u64], at: usize, mask: u64, columns: &[u64; 64])
     requires { at + 64 ≤ length table.old }
     ensures { Row table.old at mask columns.now 64 table.new }
 {
-    let mut p: usize = 0;
-    while p < 64 {
-        table[at + p] = chosen(mask, p, columns[p]);
-        p += 1;
+    for (p, column) in columns.iter().enumerate() {
+        table[at + p] = chosen(mask, p, *column);
     }
 }
 
@@ -72,37 +64,30 @@ fn keep_all(kept: &[u32], columns: &[u64; 64], table: &mut [u64])
     requires { (16 ≤ length kept.now) × (table_words ≤ length table.old) }
     ensures { Rows kept.now columns.now 16 table.new }
 {
-    let mut a: usize = 0;
-    while a < 16 {
-        keep(&mut *table, a * 64, wide(kept[a]), columns);
-        a += 1;
+    for a in 0..16 {
+        keep(table, a * 64, u64::from(kept[a]), columns);
     }
 }
 
-// What is known after each action at the nodes with these columns, by what its mask keeps and by the first n entries: a word for each action and place, with a
-// bit for each node.
-pub fn gather_block(
-    premises: &[u32],
-    keys: &[u32],
-    n: usize,
-    kept: &[u32],
-    columns: &[u64; 64],
-    table: &mut [u64],
-)
-    requires { (n ≤ length premises.now) × (n ≤ length keys.now) × (16 ≤ length kept.now) × (table_words ≤ length table.old) }
-    ensures { (nodes : List ℕ) → Columns nodes columns.now
-        → Block kept.now nodes (entries premises.now keys.now n) table.new }
+// The nodes with these columns that have each of an entry's premises.
+fn met(columns: &[u64; 64], entry: Entry) -> u64
+    ensures { (nodes : List ℕ) (i : ℕ) → Columns nodes columns.now → i < 64
+        → bit_of i result ≡ digit (within entry.premises (get_or nodes i 0)) }
 {
-    keep_all(kept, columns, &mut *table);
-    let mut i: usize = 0;
-    while i < n {
-        let key = keys[i];
-        if key < 1024 {
-            let k = key as usize;
-            let q = meet(&columns[..], 0, wide(premises[i]));
-            table[k] = table[k] | q;
+    meet(columns, 0, u64::from(entry.premises))
+}
+
+// What is known after each action at the nodes with these columns, by what its mask keeps and by the entries: a word for each action and place, with a bit
+// for each node.
+pub fn gather_block(entries: &[Entry], kept: &[u32], columns: &[u64; 64], table: &mut [u64])
+    requires { (16 ≤ length kept.now) × (table_words ≤ length table.old) }
+    ensures { (nodes : List ℕ) → Columns nodes columns.now → Block kept.now nodes entries.now table.new }
+{
+    keep_all(kept, columns, table);
+    for entry in entries {
+        if entry.key < 1024 {
+            table[entry.key as usize] |= met(columns, *entry);
         }
-        i += 1;
     }
 }
 
@@ -112,12 +97,10 @@ pub fn words_of(table: &[u64], h: usize) -> [u64; 64]
     ensures { (kept nodes : List ℕ) (es : List Entry) → Block kept nodes es table.now → Words h kept nodes es result }
 {
     let at = h * 128;
-    let mut a = [0u64; 64];
-    let mut p: usize = 0;
-    while p < 28 {
+    let mut a = [0; 64];
+    for p in 0..28 {
         a[p] = table[at + p];
         a[32 + p] = table[at + (64 + p)];
-        p += 1;
     }
     transpose::transpose(a)
 }
@@ -129,10 +112,8 @@ pub fn none_at(table: &[u64], j: usize) -> u64
 {
     let at = j * 64;
     let mut r = table[at + 44];
-    let mut p: usize = 0;
-    while p < 14 {
-        r = r | (table[at + p] & table[at + (14 + p)]);
-        p += 1;
+    for p in 0..14 {
+        r |= table[at + p] & table[at + (14 + p)];
     }
     r
 }

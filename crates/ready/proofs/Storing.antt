@@ -1,28 +1,14 @@
 -- The successors of the nodes, two actions more.
-use mathlib.Core.Path.{◌≡◌, refl, ap, ◌∙◌}
+use mathlib.Core.Path.{◌≡◌, ap, ◌∙◌}
 use mathlib.Core.List.{List}
 use Prim.Native.Nat.{ℕ, ◌+◌, ◌*◌, ◌/◌, ◌%◌, ◌^◌, ◌<◌, ◌≤◌}
 use native.Mathlib.Omega.{arith}
 use native.Mathlib.Decide.{ℕ_discrete}
 use lib.ListN.{length, get_or, set, length-set}
 use lib.Seq.{get_or-set_same, get_or-set_other}
-use borrow.Author.Count.{below_more}
-use Rattle.gather.specs.Gathering.{Entry}
+use Rattle.gather.specs.declared.Entry.{Entry}
 use Rattle.block.specs.Blocks.{table_words, after, half_of, Gone, Words, Block}
 use Rattle.ready.specs.Ready.{Stored, Ready}
-
-pub stored-none : (l : List ℕ) (at : ℕ) (w : List ℕ) → Stored l at w 0 l
-stored-none l at w = record { long = refl; inside = λ i h. absurd (omega arith); before = λ n h. refl }
-
-pub stored_next : {l w l' : List ℕ} {at : ℕ} (k : ℕ) → Stored l at w k l' → at + k < length l → Stored l at w (k + 1) (set l' (at + k) (get_or w k 0))
-stored_next {l} {w} {l'} {at} k s h =
-    let x = get_or w k 0 in
-    let long = s.long in
-    record {
-      long = length-set l' (at + k) x ∙ long;
-      inside = below_more _ _ (λ i p. get_or-set_other l' (at + k) (at + i) x 0 (λ e. omega arith) ∙ s.inside i p) (get_or-set_same l' (at + k) x 0 (omega arith));
-      before = λ n p. get_or-set_other l' (at + k) n x 0 (λ e. omega arith) ∙ s.before n p;
-    }
 
 module _ {kept nodes : List ℕ} {es : List Entry} (h : ℕ) {scratch gone : List ℕ} (f : Ready kept nodes es h scratch gone) (l : h < 8) where
   pub ready-next : {scratch' w : List ℕ} (x y : ℕ) → Words h kept nodes es w → Stored scratch (table_words + h * 64) w 64 scratch' → Gone (2 * h) kept nodes es x → Gone (2 * h + 1) kept nodes es y

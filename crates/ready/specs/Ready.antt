@@ -5,10 +5,8 @@
 -- Ready         — for the first 2 * h actions: the words after the nodes, those by actions 2g and 2g + 1 in the halves of the 64 words from 64 * g on behind
 --          the table, and the nodes that have no successor
 -- Fit — a successor is a set of 28 digits
-use Rattle.std.specs.Prelude.{◌≡◌, List, ℕ, ◌+◌, ◌*◌, ◌%◌, ◌^◌, ◌<◌, length, get_or}
-use Rattle.gather.specs.Gathering.{Entry}
-use Rattle.gather.specs.declared.Successor.{Successor}
-use Rattle.gather.specs.declared.Successor.TheVariants.{Nothing, Set}
+use Rattle.std.specs.Prelude.{◌≡◌, Option, None, Some, List, ℕ, ◌+◌, ◌*◌, ◌%◌, ◌^◌, ◌<◌, length, get_or}
+use Rattle.gather.specs.declared.Entry.{Entry}
 use Rattle.block.specs.Blocks.{table_words, after, half_of, Gone}
 
 abbrev pub scratch_words : ℕ
@@ -25,6 +23,6 @@ pub record Ready (kept nodes : List ℕ) (es : List Entry) (h : ℕ) (scratch go
       → half_of (get_or scratch (table_words + g * 64 + i) 0) e ≡ after kept (2 * g + e) (get_or nodes i 0) es % 2 ^ 28
   pub none : (j : ℕ) → j < 2 * h → Gone j kept nodes es (get_or gone j 0)
 
-abbrev pub Fit : Successor → Type 0
-Fit Nothing = Unit {0}
-Fit (Set s) = s < 2 ^ 28
+abbrev pub Fit : Option ℕ → Type 0
+Fit None = Unit {0}
+Fit (Some s) = s < 2 ^ 28

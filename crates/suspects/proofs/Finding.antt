@@ -14,9 +14,10 @@ use borrow.Author.Count.{below_more}
 use Rattle.words.specs.Words.{no_literals}
 use Rattle.words.specs.declared.Literals.{Literals}
 use Rattle.sets.specs.Sets.{Member, swap, clashes}
-use Rattle.sets.proofs.Bits.{bit_lt, zero_or_one, bit-and, bit-or, bit-zero, trailing_at}
+use Rattle.sets.proofs.Bits.{bit_lt, zero_or_one, bit-and, bit-or, trailing_at}
 use Rattle.sets.proofs.Laws.{swap-low, swap-high, clashes-is}
-use Rattle.gather.specs.Gathering.{Entry, first_missing}
+use Rattle.gather.specs.Gathering.{first_missing}
+use Rattle.gather.specs.declared.Entry.{Entry}
 use Rattle.gather.proofs.Shown.{missing-is}
 use Rattle.block.specs.Blocks.{Columns, Meets, after, Block, none_of, digit, Gone}
 use Rattle.block.proofs.Meeting.{lowest, member_below}
@@ -28,9 +29,6 @@ pub record Asking (cols : List ℕ) (p r s : ℕ) : Type 0 where
   pub fits : s < 2 ^ 32
   pub part : (c : ℕ) → Member c s → Member c p
   pub any : Any cols p r
-
-pub asking_all : (cols : List ℕ) (p : ℕ) → p < 2 ^ 32 → Asking cols p 0 p
-asking_all cols p h = record { fits = h; part = λ c m. m; any = record { some = λ i m. absurd (omega (arith, m, bit-zero i)) } }
 
 pub asking_next : {cols : List ℕ} {p r s : ℕ} → Asking cols p r s → (s ≡ 0 → ⊥) → Asking cols p (bit_or r (get_or cols (count_trailing_zeros 32 s) 0)) (bit_and s (s - 1))
 asking_next {cols} {p} {r} {s} f n =

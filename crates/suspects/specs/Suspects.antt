@@ -9,7 +9,8 @@ use Rattle.std.specs.Prelude.{◌≡◌, true, ◌⊎◌, List, ℕ, ◌^◌, �
 use Rattle.words.specs.Words.{no_literals}
 use Rattle.words.specs.declared.Literals.{Literals}
 use Rattle.sets.specs.Sets.{Member, clashes}
-use Rattle.gather.specs.Gathering.{Entry, first_missing}
+use Rattle.gather.specs.Gathering.{first_missing}
+use Rattle.gather.specs.declared.Entry.{Entry}
 use Rattle.block.specs.Blocks.{after, none_of}
 
 pub record Any (cols : List ℕ) (p r : ℕ) : Type 0 where

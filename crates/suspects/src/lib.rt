@@ -2,7 +2,7 @@
 #![tactic(auto)]
 
 ghost use Rattle.std.specs.Prelude.{◌≡◌, List, ℕ, ◌<◌, ◌≤◌, length};
-ghost use Rattle.gather.specs.Gathering.{Entry};
+ghost use Rattle.gather.specs.declared.Entry.{Entry};
 ghost use Rattle.block.specs.Blocks.{table_words, Columns, Block};
 ghost use Rattle.suspects.specs.Suspects.{Any, Small, Opposed, AllOpposed, Keeps, AllKeep};
 
@@ -12,12 +12,13 @@ use words::Literals;
 fn any_of(columns: &[u64; 64], set: u32) -> u64
     ensures { Any columns.now set result }
 {
-    let mut r: u64 = 0;
+    let mut r = 0;
     let mut s = set;
+    // A while: no iterator goes over the ones of a word.
     while s != 0 {
-        let c = u32::trailing_zeros(s) as usize;
-        r = r | columns[c];
-        s = s & (s - 1);
+        let c = s.trailing_zeros() as usize;
+        r |= columns[c];
+        s &= s - 1;
     }
     r
 }
@@ -38,12 +39,9 @@ pub fn all_opposed(columns: &[u64; 64], literals: [Literals; 8], n: usize) -> u6
     requires { n ≤ 8 }
     ensures { (nodes : List ℕ) → Small nodes → Columns nodes columns.now → AllOpposed nodes literals n result }
 {
-    let mut r: u64 = 0xFFFF_FFFF_FFFF_FFFF;
-    let mut b: usize = 0;
-    while b < n {
-        let c = literals[b];
-        r = r & opposed(columns, c.0);
-        b += 1;
+    let mut r = u64::MAX;
+    for c in &literals[..n] {
+        r &= opposed(columns, c.0);
     }
     r
 }
@@ -62,11 +60,9 @@ pub fn all_keep(table: &[u64], asked: [u64; 16], actions: usize) -> u64
     requires { (actions ≤ 16) × (table_words ≤ length table.now) }
     ensures { (kept nodes : List ℕ) (es : List Entry) → Block kept nodes es table.now → AllKeep kept nodes es asked actions result }
 {
-    let mut r: u64 = 0xFFFF_FFFF_FFFF_FFFF;
-    let mut j: usize = 0;
-    while j < actions {
-        r = r & keeps(table, j, asked[j]);
-        j += 1;
+    let mut r = u64::MAX;
+    for (j, places) in asked[..actions].iter().enumerate() {
+        r &= keeps(table, j, *places);
     }
     r
 }

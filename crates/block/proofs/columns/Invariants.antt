@@ -1,10 +1,8 @@
 -- The first i words are copied.
-use Prim.Native.Nat.{◌≤◌, ◌-◌}
-use Rattle.block.proofs.Meeting.{Copied}
+use mathlib.Core.Path.{◌≡◌}
+use lib.ListN.{get_or, length}
+use Prim.Native.Nat.{ℕ, ◌<◌}
 use Rattle.block.proofs.columns.Given as goal
 
 abbrev pub invariant-loop-i : goal.invariant-loop-i
-invariant-loop-i l = (l.i ≤ 64) × Copied l.nodes l.i l.a
-
-abbrev pub decreases-loop-i : goal.decreases-loop-i
-decreases-loop-i l = 64 - l.i
+invariant-loop-i l = (length l.a ≡ 64) × ((k : ℕ) → k < l.i → get_or l.a k 0 ≡ get_or l.nodes k 0)

@@ -1,14 +1,9 @@
--- The table is that of the first i entries, for any nodes with these columns.
-use mathlib.Core.Path.{◌≡◌}
+-- The table is that of the entries so far, for any nodes with these columns.
 use mathlib.Core.List.{List}
-use lib.ListN.{length}
-use Prim.Native.Nat.{ℕ, ◌≤◌, ◌-◌}
-use Rattle.gather.specs.Gathering.{entries}
+use lib.ListN.{take}
+use Prim.Native.Nat.{ℕ}
 use Rattle.block.specs.Blocks.{Columns, Block}
 use Rattle.block.proofs.gather_block.Given as goal
 
-abbrev pub invariant-loop-i : goal.invariant-loop-i
-invariant-loop-i l = (l.i ≤ l.n) × (length l.table ≡ length l.initial.table) × ((nodes : List ℕ) → Columns nodes l.columns → Block l.kept nodes (entries l.premises l.keys l.i) l.table)
-
-abbrev pub decreases-loop-i : goal.decreases-loop-i
-decreases-loop-i l = l.n - l.i
+abbrev pub invariant-loop-entry : goal.invariant-loop-entry
+invariant-loop-entry l = (nodes : List ℕ) → Columns nodes l.columns → Block l.kept nodes (take l.entry-index l.entries) l.table

@@ -1,10 +1,6 @@
-use Prim.Native.Nat.{◌≤◌, ◌-◌}
-use Rattle.gather.specs.Gathering.{entries}
+use lib.ListN.{take}
 use Rattle.gather.proofs.Tables.{Pending}
 use Rattle.gather.proofs.gather_all.Given as goal
 
-abbrev pub invariant-loop-i : goal.invariant-loop-i
-invariant-loop-i l = (l.i ≤ l.n) × Pending l.initial.t l.node (entries l.premises l.keys l.i) l.t l.a l.g
-
-abbrev pub decreases-loop-i : goal.decreases-loop-i
-decreases-loop-i l = l.n - l.i
+abbrev pub invariant-loop-entry : goal.invariant-loop-entry
+invariant-loop-entry l = Pending l.initial.t l.node (take l.entry-index l.entries) l.t l.a l.g
