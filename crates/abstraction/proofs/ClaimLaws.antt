@@ -16,7 +16,7 @@ use Rattle.lemmas.specs.Lemmas.{Goal, CannotHappen, HoldsAfter, FailsAfter, NotB
 use Rattle.lemmas.specs.LemmaGrammar.{sets_variable, goal_allowed, LemmaOk}
 use Rattle.lemmas.proofs.LemmaLaws.{same-goal, sets-known, action-rising}
 use Rattle.sets.specs.Sets.{bit_of}
-use Rattle.gather.specs.Gathering.{Claim, place_of, Placed, cannot, holds, fails, low_end, high_end, Sound, entry_of, gathered, Some}
+use Rattle.gather.specs.Gathering.{Claim, place_of, Placed, cannot, holds, fails, low_end, high_end, Sound, entry_of, gathered, AnyOf}
 use Rattle.gather.proofs.Shown.{never, Shows, shown_by}
 use Rattle.integers.proofs.Tests.{and-true, or_cases, same_test}
 use Rattle.words.specs.LiteralSets.{Literal, literals_in, has}
@@ -54,7 +54,7 @@ applied_is p source exp goal index l =
 
 -- ---- a list of claims, perhaps with one before it
 module _ (P : Claim → Type 0) where
-  some_with : (b : Bool) (c : Claim) (cs : List Claim) → Some P (with_claim b c cs) ↔ (((b ≡ true) × P c) ⊎ Some P cs)
+  some_with : (b : Bool) (c : Claim) (cs : List Claim) → AnyOf P (with_claim b c cs) ↔ (((b ≡ true) × P c) ⊎ AnyOf P cs)
   some_with true c cs = (
     λ w. let (x, d, h) = w in ⊎_elim (λ q. inl (refl, rw q at h)) (λ q. inr (x, q, h)) (Memᴰ.cases_cons d),
     λ s. ⊎_elim (λ h. (c, Memᴰ.head refl, h.1)) (λ w. let (x, d, h) = w in (x, Memᴰ.tail d, h)) s,
@@ -98,7 +98,7 @@ module _ (p : Program) where
           λ w. let (qs, qg, qi, q) = w.1 in back (record { accepts = w.0; source_is = qs; goal-is = qg; index_is = qi; premises_in = here q }),
         )
 
-    list-is : (ls : List Lemma) → (applies p ls source (literals_in 14 set) goal index ≡ true) ↔ Some (Shows source set (goal_number goal) index) (claims p ls)
+    list-is : (ls : List Lemma) → (applies p ls source (literals_in 14 set) goal index ≡ true) ↔ AnyOf (Shows source set (goal_number goal) index) (claims p ls)
     unfolding applies claims
     list-is [] = (λ h. never h, λ w. absurd (Memᴰ.not-nil w.1))
     list-is (l ∷ ls) =

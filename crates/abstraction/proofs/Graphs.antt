@@ -20,9 +20,9 @@ use Rattle.frame.proofs.MaskTable.{masks-at}
 use Rattle.sets.specs.Sets.{bit_of, Member, apart}
 use Rattle.sets.proofs.Bits.{bit_mod}
 use Rattle.sets.proofs.Laws.{mixed_is, Paired, pairs-are}
-use Rattle.gather.specs.Gathering.{cannot, holds, fails, Entry, entry_of, gather_from, gathered, known, blocked, successor_of}
-use Rattle.gather.specs.declared.Successor.{Successor}
-use Rattle.gather.specs.declared.Successor.TheVariants.{Nothing, Set}
+use Rattle.gather.specs.Gathering.{cannot, holds, fails, entry_of, gather_from, gathered, known, blocked, successor_of}
+use Rattle.std.specs.Prelude.{Option, None, Some}
+use Rattle.gather.specs.declared.Entry.{Entry}
 use Rattle.gather.proofs.Shown.{never, known_is}
 use Rattle.gather.proofs.Successors.{successor-set}
 use Rattle.words.specs.LiteralSets.{Literal, B, NotB, predicate_of, literal_if, literals_in, set_of, has}
@@ -37,9 +37,9 @@ use Rattle.abstraction.proofs.Literals.{place_in, among_in, set-literals, litera
 use Rattle.abstraction.proofs.ClaimLaws.{applied-allowed, applies-is}
 
 -- ---- formula (3), where what is shown are the digits of a word
-abbrev pub monomial_of : Successor → Monomial
-monomial_of (Set s) = And (literals_in 14 s)
-monomial_of Nothing = False
+abbrev pub monomial_of : Option ℕ → Monomial
+monomial_of (Some s) = And (literals_in 14 s)
+monomial_of None = False
 
 and-false : (m : Monomial) → and m False ≡ False
 and-false False = refl
@@ -91,7 +91,7 @@ module _ (g : ℕ) where
   formula-is : cond (blocked g) False (conjuncts digit 14) ≡ monomial_of (successor_of g)
   formula-is = go (blocked g) (apart (g % 2 ^ 28)) refl
     where
-      go : (b d : Bool) → apart (g % 2 ^ 28) ≡ d → cond b False (conjuncts digit 14) ≡ monomial_of (cond (b || not d) Nothing (Set (g % 2 ^ 28)))
+      go : (b d : Bool) → apart (g % 2 ^ 28) ≡ d → cond b False (conjuncts digit 14) ≡ monomial_of (cond (b || not d) None (Some (g % 2 ^ 28)))
       go true d e = refl
       go false true e =
           no-clash 14 (omega arith) (λ p l m q. never (sym ((mixed_is (g % 2 ^ 28)).1 (p, l, bit_mod 28 p g (omega arith) ∙ m, bit_mod 28 (14 + p) g (omega arith) ∙ q)) ∙ e))
@@ -124,7 +124,7 @@ module _ (p : Program) (ok : WellFormed p) (ls : List Lemma) (good : Each (Lemma
     abbrev full : ℕ
     full = known mask source set tables
 
-    abbrev pub here : Successor
+    abbrev pub here : Option ℕ
     here = successor_of full
 
     abbrev preds : ℕ
@@ -215,9 +215,9 @@ module _ (p : Program) (ok : WellFormed p) (ls : List Lemma) (good : Each (Lemma
     pub answer-is : answer_of here ≡ answer (successor p ls source (literals_in 14 set))
     answer-is = go here refl ∙ sym (ap answer successor-is)
       where
-        go : (s : Successor) → here ≡ s → answer_of s ≡ answer (monomial_of s)
-        go (Set s) e = let l = (successor-set full s e).0 in let z : set_of (literals_in 14 s) ≡ s = set-literals s ∙ omega arith in rw z refl
-        go Nothing e = refl
+        go : (s : Option ℕ) → here ≡ s → answer_of s ≡ answer (monomial_of s)
+        go (Some s) e = let l = (successor-set full s e).0 in let z : set_of (literals_in 14 s) ≡ s = set-literals s ∙ omega arith in rw z refl
+        go None e = refl
 
   starts : start_of tables ≡ answer (start p ls)
   unfolding literals_in

@@ -10,8 +10,7 @@ use Rattle.grammar.specs.Programs.{Program}
 use Rattle.grammar.specs.WellFormed.{Each, WellFormed}
 use Rattle.lemmas.specs.Lemmas.{Lemma, START}
 use Rattle.lemmas.specs.LemmaGrammar.{LemmaOk}
-use Rattle.gather.specs.declared.Successor.{Successor}
-use Rattle.gather.specs.declared.Successor.TheVariants.{Nothing, Set}
+use Rattle.std.specs.Prelude.{Option, None, Some}
 use Rattle.words.specs.LiteralSets.{Literal, literals_in, set_of}
 use Rattle.formula.specs.Formula.{Monomial, False, And, at-start, after}
 use Rattle.search.specs.Search.{To}
@@ -50,9 +49,9 @@ module _ (p : Program) (ok : WellFormed p) (ls : List Lemma) (good : Each (Lemma
   pub successor-back : (source set : ℕ) (m : List Literal) → successor p ls source (literals_in 14 set) ≡ And m → state_of (word_of m) ≡ m
   successor-back source set m e = go (here p ok ls good source set) (sym (successor-is p ok ls good source set) ∙ e)
     where
-      go : (s : Successor) → monomial_of s ≡ And m → state_of (word_of m) ≡ m
-      go (Set s) q = let r : literals_in 14 s ≡ m = cc in rw (← r) (read_back_lem s)
-      go Nothing q = let z : ◌≡◌ {A = ℕ} 0 1 = cc in absurd (omega arith)
+      go : (s : Option ℕ) → monomial_of s ≡ And m → state_of (word_of m) ≡ m
+      go (Some s) q = let r : literals_in 14 s ≡ m = cc in rw (← r) (read_back_lem s)
+      go None q = let z : ◌≡◌ {A = ℕ} 0 1 = cc in absurd (omega arith)
 
   pub start_back : (m : List Literal) → start p ls ≡ And m → state_of (word_of m) ≡ m
   unfolding literals_in

@@ -13,12 +13,12 @@ use borrow.Author.Tests.{lt-ltb}
 use lib.ListN.{replicate, length, take, drop, length-drop}
 use lib.Seq.{take_all, take_at, drop-length, drop-drop, drop-append-add}
 use borrow.Rule.Slice.PartMut.{mid_of, post_of, put_mid, Post-is}
-use Rattle.search.specs.Search.{Answer, To, None, Root, Graph, Result, Done, Over, count, links_in, empty, turns, node, visited, explored}
+use Rattle.std.specs.Prelude.{Option, Some, None}
+use Rattle.search.specs.Search.{None as Nowhere}
+use Rattle.search.specs.Search.{Answer, To, Root, Graph, Result, Done, Over, count, links_in, empty, turns, node, visited, explored}
 use Rattle.search.proofs.Theorem as theorem
 use Rattle.search.proofs.Steps.{explored-over, explored-done}
 use Rattle.records.specs.Records.{most_nodes, header, graph_words, origin_word, distance_word, stride, record_place, records_of, graph_list}
-use Rattle.records.specs.declared.Explored.{Explored}
-use Rattle.records.specs.declared.Explored.TheVariants.{Whole, Full}
 use Rattle.records.specs.Steps.{explored_of, headed, column, Near, Kept, Mid, Fair, Turned, Filled}
 use Rattle.records.proofs.Places.{most, headed-drop}
 use Rattle.records.proofs.Stores.{near-stored, kept-stored}
@@ -36,7 +36,6 @@ pub record Running (next : ℕ → ℕ → Answer) (a s : ℕ) (l₀ l : List �
   pub few : n ≤ most_nodes
   pub bound : x ≤ k * a
   pub near : Near l a n
-  pub same : length l ≡ length l₀
   pub tail : drop graph_words l ≡ drop graph_words l₀
   pub held : Still l₀ (visited next a most_nodes (To s) k) l a n x (k * a)
 
@@ -57,7 +56,6 @@ first-node next a s l l₀ root room =
       few = omega arith;
       bound = omega arith;
       near = rw root (rw (zero-mul (stride a)) at (near-stored l a 0 s (origin_word Root) (distance_word 0) (omega (arith, zero-mul (stride a))) (omega arith) (λ i h. absurd (omega arith))));
-      same = refl;
       tail = refl;
       held = rw (root, zero-mul a) (rebased (rw (zero-mul (stride a)) at k));
     }
@@ -66,15 +64,15 @@ root_tail : (l : List ℕ) (s m : ℕ) → header ≤ m → drop m (root_at l s)
 root_tail l s m h = headed-drop l 0 s (origin_word Root) (distance_word 0) m (omega arith)
 
 module _ (next : ℕ → ℕ → Answer) (a s : ℕ) (l₁ l₀ l : List ℕ) (root : l₀ ≡ root_at l₁ s) (n x k : ℕ) (inv : Running next a s l₀ l n x k) where
-  module _ (r : Explored) (l' : List ℕ) (lt : k < n) (t : Turned (λ g. turns next most_nodes g k a) l a n x (k * a) r l' (k * a + a)) where
+  module _ (r : Option (ℕ × ℕ)) (l' : List ℕ) (lt : k < n) (t : Turned (λ g. turns next most_nodes g k a) l a n x (k * a) r l' (k * a + a)) where
     taken : (y : Result) → Still l₀ y l a n x (k * a) → Mid l₀ (node next a most_nodes y k) r l' a (k * a + a)
     taken (Done g) h = let c = h.size in rw (lt-ltb k (count g) (omega arith)) (t.held l₀ g h)
     taken Over h = absurd h
 
-    pub taken-on : (c d : ℕ) → r ≡ Whole c d → length l' ≡ length l → Running next a s l₀ l' c d (k + 1)
+    pub taken-on : (c d : ℕ) → r ≡ Some (c, d) → Running next a s l₀ l' c d (k + 1)
     unfolding visited
-    taken-on c d is len =
-        let f : Fair l' a n (k * a + a) (Whole c d) = rw is at t.fair in
+    taken-on c d is =
+        let f : Fair l' a n (k * a + a) (Some (c, d)) = rw is at t.fair in
         let next_place : (k + 1) * a ≡ k * a + a = rw add-one (suc-mul k a) in
         record {
           low = omega arith;
@@ -82,14 +80,13 @@ module _ (next : ℕ → ℕ → Answer) (a s : ℕ) (l₁ l₀ l : List ℕ) (r
           few = f.1;
           bound = rw next_place f.2;
           near = f.3;
-          same = len ∙ inv.same;
           tail = t.tail ∙ inv.tail;
           held =
               rw (next_place, add-one k)
               (settle l₀ (node next a most_nodes (visited next a most_nodes (To s) k) k) l' a c d (k * a + a) (rw is at (taken (visited next a most_nodes (To s) k) inv.held)));
         }
 
-    pub all-over : r ≡ Full → Filled a (explored next a most_nodes (To s)) r l₁ l'
+    pub all-over : r ≡ None → Filled a (explored next a most_nodes (To s)) r l₁ l'
     unfolding visited
     all-over is =
         let f = inv.few in
@@ -97,10 +94,10 @@ module _ (next : ℕ → ℕ → Answer) (a s : ℕ) (l₁ l₀ l : List ℕ) (r
         (is_over l₀ (node next a most_nodes (visited next a most_nodes (To s) k) k) l' a (k * a + a) (rw is at (taken (visited next a most_nodes (To s) k) inv.held))))
         (is, t.tail ∙ inv.tail ∙ rw root (root_tail l₁ s graph_words (omega arith)))
 
-  pub all_done : n ≤ k → record_place a n ≤ length l → Filled a (explored next a most_nodes (To s)) (Whole n x) l₁ l
+  pub all_done : n ≤ k → record_place a n ≤ length l → Filled a (explored next a most_nodes (To s)) (Some (n, x)) l₁ l
   all_done past wide = go (visited next a most_nodes (To s) k) refl inv.held
     where
-      go : (y : Result) → visited next a most_nodes (To s) k ≡ y → Still l₀ y l a n x (k * a) → Filled a (explored next a most_nodes (To s)) (Whole n x) l₁ l
+      go : (y : Result) → visited next a most_nodes (To s) k ≡ y → Still l₀ y l a n x (k * a) → Filled a (explored next a most_nodes (To s)) (Some (n, x)) l₁ l
       go (Done g) e h =
           let c = h.size in
           let low = inv.low in
@@ -124,11 +121,11 @@ rest_cleared xs ys a n N low high is e =
     let zeros : ys ≡ replicate (N - a) 0 ++ drop N xs = e ∙ rw (is, whole, rest) refl in
     rw (none, append-nil ys) (ap (λ (z : List ℕ). take a xs ++ z) zeros)
 
-abbrev pub Leaves : (ℕ → ℕ → Answer) → ℕ → Answer → List ℕ → Explored → List ℕ → Type 0
+abbrev pub Leaves : (ℕ → ℕ → Answer) → ℕ → Answer → List ℕ → Option (ℕ × ℕ) → List ℕ → Type 0
 Leaves next a y l₀ r l = (r ≡ explored_of (explored next a most_nodes y)) × (l ≡ graph_list a (explored next a most_nodes y) l₀)
 
 module _ (next : ℕ → ℕ → Answer) (a : ℕ) (l₀ : List ℕ) where
-  module _ (w : ℕ) (r : Explored) (l : List ℕ) (filled : Filled a (explored next a most_nodes (To w)) r l₀ l) where
+  module _ (w : ℕ) (r : Option (ℕ × ℕ)) (l : List ℕ) (filled : Filled a (explored next a most_nodes (To w)) r l₀ l) where
     pub few-found : FewNodes r
     few-found = go (explored next a most_nodes (To w)) refl filled
       where
@@ -156,6 +153,6 @@ module _ (next : ℕ → ℕ → Answer) (a : ℕ) (l₀ : List ℕ) where
             (f.0, left ∙ rw (here, front, rest) refl)
         go Over e f = let none : used ≡ 0 = is ∙ ap (taken_by a) f.0 in (f.0, left ∙ rw (none, f.1) refl)
 
-  pub cleared-none : {y : Answer} → y ≡ None → (l' : List ℕ) → l' ≡ replicate graph_words 0 ++ drop graph_words l₀ → Leaves next a y l₀ (Whole 0 0) l'
+  pub cleared-none : {y : Answer} → y ≡ Nowhere → (l' : List ℕ) → l' ≡ replicate graph_words 0 ++ drop graph_words l₀ → Leaves next a y l₀ (Some (0, 0)) l'
   unfolding visited records_of links_in
-  cleared-none from l' blank = rw (from, explored-done next a most_nodes None empty 0 (omega arith) (omega arith) refl) (refl, rw (zero-mul (stride a)) blank)
+  cleared-none from l' blank = rw (from, explored-done next a most_nodes Nowhere empty 0 (omega arith) (omega arith) refl) (refl, rw (zero-mul (stride a)) blank)

@@ -2,7 +2,7 @@
 --     row_within, most, one_more      records lie one after another, and within their room
 --     column-length, column-at, mapped_at, column-same   a column's words, and those of another list
 --     headed-word, -origin, -distance, -other, -drop, -length   the first words of a record, and what is not there
---     tried, none_found, found        the loop that looks a word up, wherever it begins
+--     tried, none_found, found        the loop that looks a word up
 --     firsts_more                     one word more that is not there yet
 --     zeros-left                      what is left of a run of zeros
 use mathlib.Core.Path.{◌≡◌, refl, sym, ap, subst, ◌∙◌}
@@ -15,7 +15,7 @@ use lib.ListN.{length, get_or, set, drop, replicate, length-replicate, length-ap
 use lib.Seq.{drop-append-le, drop-set-lt, get_or-set_same, get_or-set_other, get_or_at}
 use Rattle.integers.proofs.Fill.{get_d_mapped}
 use Rattle.search.specs.Search.{seek}
-use Rattle.search.proofs.Count.{lt_or_le, eq_or_ne, seek_found, seek-bound, seek_le}
+use Rattle.search.proofs.Count.{eq_or_ne, lt_or_le, seek_found, seek-bound, seek_le}
 use Rattle.records.specs.Records.{most_nodes, header, graph_words, stride, distance_offset, record_place}
 use Rattle.records.specs.Steps.{origin_offset, headed, column, Firsts}
 
@@ -100,16 +100,12 @@ pub tried : (P : ℕ → Type 0) (n i left : ℕ) → ((k : ℕ) → left ≤ k 
 tried P n i left before other k ge lt p = ⊎_elim (λ e. other (subst P e p)) (λ ne. before k ge lt ne p) (eq_or_ne k i)
 
 -- none of n nodes has the word
-pub none_found : (l : List ℕ) (a n w : ℕ) → ((k : ℕ) → k < n → get_or l (record_place a k) 0 ≡ w → ⊥) → n ≡ seek w (column l a 0 n)
+pub none_found : (l : List ℕ) (a n w : ℕ) → ((k : ℕ) → k < n → get_or l (record_place a k) 0 ≡ w → ⊥) → seek w (column l a 0 n) ≡ n
 none_found l a n w other =
     let cs = column l a 0 n in
     let len : length cs ≡ n = column-length l a 0 n in
     ⊎_elim (λ lt. absurd (other (seek w cs) lt (sym (first-at l a n (seek w cs) lt) ∙ seek_found w cs (omega (arith, len)))))
     (λ ge. omega (arith, seek-bound w cs, len)) (lt_or_le (seek w cs) n)
-
--- what is not found below n is not there
-pub not_there : (w : ℕ) (l : List ℕ) (a n at : ℕ) → at ≡ seek w (column l a 0 n) → n ≤ at → seek w (column l a 0 n) ≡ n
-not_there w l a n at e out = omega (arith, seek-bound w (column l a 0 n), column-length l a 0 n)
 
 -- the node that has the word is the first one
 pub found : (l : List ℕ) (a n w h : ℕ) → h < n → get_or l (record_place a h) 0 ≡ w → Firsts (column l a 0 n) → h ≡ seek w (column l a 0 n)

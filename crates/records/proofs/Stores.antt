@@ -1,7 +1,7 @@
 -- What stores of words do to a list that holds a graph:
 --     kept-linked, kept-stored    an edge of a node; a record more
 --     near-linked, near-stored    each distance is still at most its node's number
---     known, full, fresh, none    one action's turn: to a node that is there, to one too many, to a new one, to none
+--     known, fresh, none          one action's turn: to a node that is there, to a new one, to none
 use mathlib.Core.Path.{◌≡◌, refl, sym, ap, ◌∙◌}
 use mathlib.Core.Logic.{inl, inr, ⊎_elim}
 use mathlib.Core.List.{List, [], ◌∷◌, ◌++◌, map-append}
@@ -12,24 +12,25 @@ use native.Mathlib.Numerals.{add-one}
 use borrow.Author.Tests.{lt-ltb, le-ltb}
 use lib.ListN.{length, drop, get_or, set, length-append, get_or-append}
 use lib.Seq.{get_or-set_same, get_or-set_other, drop-set-lt, drop-drop, get_or_at}
-use Rattle.search.specs.Search.{Answer, To, None, Origin, From, Graph, count, distance, distance_by, links_in, seek, stored, linked, answered}
+use Rattle.std.specs.Prelude.{Option, Some, None}
+use Rattle.search.specs.Search.{None as Nowhere}
+use Rattle.search.specs.Search.{Answer, To, Origin, From, Graph, count, distance, distance_by, links_in, seek, stored, linked, answered}
 use Rattle.search.proofs.Count.{same_place, lt_or_le}
 use Rattle.records.specs.Records.{origin_word, distance_word, edge_word, most_nodes, graph_words, header, stride, distance_offset, record_place, edge_place}
-use Rattle.records.specs.declared.Explored.TheVariants.{Whole, Full}
-use Rattle.records.specs.Steps.{origin_offset, headed, column, Firsts, Near, Kept, Turned}
-use Rattle.records.proofs.Places.{row_within, most, rooms, one_more, column-same, mapped_at, headed-length, headed-drop, headed-other, headed-word, headed-origin, headed-distance, firsts_more, not_there}
+use Rattle.records.specs.Steps.{origin_offset, headed, column, Sought, Near, AtNode, Kept, Turned}
+use Rattle.records.proofs.Places.{row_within, most, rooms, one_more, column-same, mapped_at, headed-length, headed-drop, headed-other, headed-word, headed-origin, headed-distance, firsts_more}
 
 -- 1 for an edge that leads to a node
 abbrev pub leads : Answer → ℕ
 leads (To m) = 1
-leads None = 0
+leads Nowhere = 0
 
 pub links-more : (es : List Answer) (y : Answer) → links_in (es ++ (y ∷ [])) ≡ links_in es + leads y
 unfolding links_in
 links-more [] (To m) = refl
-links-more [] None = refl
+links-more [] Nowhere = refl
 links-more (To m ∷ es) y = ap suc (links-more es y) ∙ omega arith
-links-more (None ∷ es) y = links-more es y
+links-more (Nowhere ∷ es) y = links-more es y
 
 -- the words before a node's edges are not among them
 edge-apart : (l : List ℕ) (a k j v c i : ℕ) → j < a → c < header → get_or (set l (edge_place a k j) v) (record_place a i + c) 0 ≡ get_or l (record_place a i + c) 0
@@ -65,9 +66,9 @@ module _ (l₀ l : List ℕ) (a n x e : ℕ) (g : Graph) (h : Kept l₀ l a n x 
         distances = same distance_offset (omega arith) ∙ h.distances;
         edges = λ i m hm b.
             ⊎_elim
-            (λ lt. get_or-set_other l p (edge_place a i m) v 0 (λ q. let z = same_place s i (header + m) k (header + j) (omega arith) (omega arith) q in let y : i * a ≡ k * a = rw z.0 in omega arith) ∙ h.edges i m hm lt ∙ ap edge_word (sym (get_or-append g.edges (y ∷ []) None (i * a + m) (omega (arith, h.width)))))
+            (λ lt. get_or-set_other l p (edge_place a i m) v 0 (λ q. let z = same_place s i (header + m) k (header + j) (omega arith) (omega arith) q in let y : i * a ≡ k * a = rw z.0 in omega arith) ∙ h.edges i m hm lt ∙ ap edge_word (sym (get_or-append g.edges (y ∷ []) Nowhere (i * a + m) (omega (arith, h.width)))))
             (λ ge. let q : i * a + m ≡ k * a + j = omega arith in let z = same_place a i m k j hm hj q in
-            rw (z.0, z.1) (get_or-set_same l p v 0 (omega arith) ∙ is ∙ ap edge_word (sym (get_or_at g.edges y [] None (k * a + j) (h.width ∙ he))))) (lt_or_le (i * a + m) e);
+            rw (z.0, z.1) (get_or-set_same l p v 0 (omega arith) ∙ is ∙ ap edge_word (sym (get_or_at g.edges y [] Nowhere (k * a + j) (h.width ∙ he))))) (lt_or_le (i * a + m) e);
         rest = drop-set-lt (record_place a n) l p v inside ∙ h.rest;
       }
 
@@ -97,63 +98,53 @@ module _ (l₀ l : List ℕ) (a n x e : ℕ) (g : Graph) (h : Kept l₀ l a n x 
       }
 
 -- ---- one action's turn
-module _ (l : List ℕ) (a n x k j : ℕ) (len : graph_words ≤ length l) (few : n ≤ most_nodes) (ha : a ≤ 16) (hk : k < n) (hj : j < a) (bound : x ≤ k * a + j) (near : Near l a n) where
+module _ (l : List ℕ) (a n x k j : ℕ) (at : AtNode l n x a k (k * a + j)) (hj : j < a) where
   wide : record_place a n ≤ length l
-  wide = omega (arith, most n a few ha)
+  wide = omega (arith, most n a at.few at.narrow)
 
   inside : edge_place a k j < graph_words
-  inside = omega (arith, rooms n k a few ha hk)
+  inside = omega (arith, rooms n k a at.few at.narrow at.there)
 
-  pub none : (v : ℕ) → v ≡ edge_word None
-      → Turned (λ g. answered most_nodes g (From k j) None) l a n x (k * a + j) (Whole n x) (set l (edge_place a k j) v) (k * a + j + 1)
+  pub none : (v : ℕ) → v ≡ edge_word Nowhere
+      → Turned (λ g. answered most_nodes g (From k j) Nowhere) l a n x (k * a + j) (Some (n, x)) (set l (edge_place a k j) v) (k * a + j + 1)
   none v is = record {
-    fair = (omega arith, few, omega arith, near-linked l a n k j v hj near);
+    fair = (omega arith, at.few, omega arith, near-linked l a n k j v hj at.near);
     tail = drop-set-lt graph_words l (edge_place a k j) v inside;
     held = λ l₀ g h.
         let flat : x + 0 ≡ x = omega arith in
-        let t = kept-linked l₀ l a n x (k * a + j) g h wide k j v None hk hj refl is in
+        let t = kept-linked l₀ l a n x (k * a + j) g h wide k j v Nowhere at.there hj refl is in
         rw (t.size, t.leading, flat) (refl, rw flat at t);
   }
 
   module _ (w : ℕ) where
-    -- the place is the word's, if no word is there twice
-    abbrev Found : ℕ → Type 0
-    Found at = Firsts (column l a 0 n) → at ≡ seek w (column l a 0 n)
+    -- where the word is, or that it is not there
+    abbrev Found : Option ℕ → Type 0
+    Found r = Sought (column l a 0 n) w n r
 
-    placed_at : {l₀ : List ℕ} {g : Graph} {e at : ℕ} → Kept l₀ l a n x e g → Found at → at ≡ seek w (column l a 0 n)
-    placed_at h is = is (rw h.words h.apart)
+    missing : {l₀ : List ℕ} {g : Graph} {e : ℕ} → Kept l₀ l a n x e g → Found None → seek w g.words ≡ n
+    missing h is = rw h.words at (is (rw h.words h.apart))
 
-    pub known : (v at : ℕ) → Found at → at < n → v ≡ edge_word (To at)
-        → Turned (λ g. answered most_nodes g (From k j) (To w)) l a n x (k * a + j) (Whole n (x + 1)) (set l (edge_place a k j) v) (k * a + j + 1)
-    known v at is lt ev = record {
-      fair = (omega arith, few, omega arith, near-linked l a n k j v hj near);
+    pub known : (v m : ℕ) → Found (Some m) → v ≡ edge_word (To m)
+        → Turned (λ g. answered most_nodes g (From k j) (To w)) l a n x (k * a + j) (Some (n, x + 1)) (set l (edge_place a k j) v) (k * a + j + 1)
+    known v m is ev = record {
+      fair = (omega arith, at.few, omega arith, near-linked l a n k j v hj at.near);
       tail = drop-set-lt graph_words l (edge_place a k j) v inside;
       held = λ l₀ g h.
-          let here : seek w g.words ≡ at = rw (← h.words) (sym (placed_at h is)) in
-          let below : seek w g.words < count g = omega (arith, here, h.size) in
-          let t = kept-linked l₀ l a n x (k * a + j) g h wide k j v (To (seek w g.words)) hk hj refl (rw here ev) in
+          let here : seek w g.words ≡ m = rw h.words at (sym (is.1 (rw h.words h.apart))) in
+          let below : seek w g.words < count g = omega (arith, here, is.0, h.size) in
+          let t = kept-linked l₀ l a n x (k * a + j) g h wide k j v (To (seek w g.words)) at.there hj refl (rw here ev) in
           rw (lt-ltb (seek w g.words) (count g) below) (rw (t.size, t.leading) (refl, t));
-    }
-
-    pub full : (at : ℕ) → Found at → n ≤ at → n ≡ most_nodes → Turned (λ g. answered most_nodes g (From k j) (To w)) l a n x (k * a + j) Full l (k * a + j + 1)
-    full at is out all = record {
-      fair = tt;
-      tail = refl;
-      held = λ l₀ g h.
-          let here : seek w g.words ≡ n = rw (← h.words) (not_there w l a n at (placed_at h is) out) in
-          let c = h.size in
-          rw (le-ltb (seek w g.words) (count g) (omega arith), le-ltb (count g) most_nodes (omega arith)) refl;
     }
 
     -- the distance word of the parent is its distance
     parent_is : {l₀ : List ℕ} {g : Graph} {e : ℕ} → Kept l₀ l a n x e g → get_or l (record_place a k + distance_offset) 0 ≡ distance g k
-    parent_is {g = g} h = let plain : distance_word (distance g k) ≡ distance g k = omega arith in mapped_at l a distance_offset n k hk distance_word g.distances 0 h.distances ∙ plain
+    parent_is {g = g} h = let plain : distance_word (distance g k) ≡ distance g k = omega arith in mapped_at l a distance_offset n k at.there distance_word g.distances 0 h.distances ∙ plain
 
-    pub fresh : (v u d at : ℕ) → Found at → n ≤ at → n < most_nodes → u ≡ origin_word (From k j) → d ≡ get_or l (record_place a k + distance_offset) 0 → v ≡ edge_word (To n)
-        → Turned (λ g. answered most_nodes g (From k j) (To w)) l a n x (k * a + j) (Whole (n + 1) (x + 1))
+    pub fresh : (v u d : ℕ) → Found None → n < most_nodes → u ≡ origin_word (From k j) → d ≡ get_or l (record_place a k + distance_offset) 0 → v ≡ edge_word (To n)
+        → Turned (λ g. answered most_nodes g (From k j) (To w)) l a n x (k * a + j) (Some (n + 1, x + 1))
         (set (headed l (record_place a n) w u (distance_word (d + 1))) (edge_place a k j) v) (k * a + j + 1)
-    fresh v u d at is out some eu ed ev =
-        let more = one_more n a some ha in
+    fresh v u d is some eu ed ev =
+        let more = one_more n a some at.narrow in
         let m = headed l (record_place a n) w u (distance_word (d + 1)) in
         let next_row : (n + 1) * stride a ≡ record_place a n + stride a = rw add-one (suc-mul n (stride a)) in
         let same : length m ≡ length l = headed-length l (record_place a n) w u (distance_word (d + 1)) in
@@ -162,11 +153,11 @@ module _ (l : List ℕ) (a n x k j : ℕ) (len : graph_words ≤ length l) (few 
             omega arith,
             omega arith,
             omega arith,
-            near-linked m a (n + 1) k j v hj (near-stored l a n w u (distance_word (d + 1)) (omega arith) (omega (arith, near k hk, ed)) near),
+            near-linked m a (n + 1) k j v hj (near-stored l a n w u (distance_word (d + 1)) (omega arith) (omega (arith, at.near k at.there, ed)) at.near),
           );
           tail = drop-set-lt graph_words m (edge_place a k j) v inside ∙ headed-drop l (record_place a n) w u (distance_word (d + 1)) graph_words (omega arith);
           held = λ l₀ g h.
-              let here : seek w g.words ≡ n = rw (← h.words) (not_there w l a n at (placed_at h is) out) in
+              let here = missing h is in
               let c = h.size in
               let far : distance_word (d + 1) ≡ distance_word (suc (distance g k)) = ap distance_word (omega (arith, ed, parent_is h)) in
               let sh = kept-stored l₀ l a n x (k * a + j) g h wide (From k j) w u (distance_word (d + 1)) (omega arith) eu far here in

@@ -2,27 +2,19 @@
 #![tactic(auto)]
 
 ghost use Rattle.std.specs.Prelude.{◌≡◌, ◌++◌, ◌+◌, ◌*◌, ◌<◌, ◌≤◌, length, drop, get_or, replicate};
-ghost use Rattle.search.specs.Search.{To, None, Root, From, seek, answered};
+ghost use Rattle.search.specs.Search.{To, Root, From, seek, answered};
+ghost use Rattle.search.specs.Search.{None as Nowhere};
 ghost use Rattle.records.specs.Records.{edge_word, origin_word, distance_word, most_nodes, header, graph_words};
 ghost use Rattle.records.specs.Records.{stride, distance_offset, record_place, edge_place};
-ghost use Rattle.records.specs.Steps.{headed, column, hint_count, Firsts, Near, Turned};
+ghost use Rattle.records.specs.Steps.{headed, origin_at, column, hint_count, Sought, AtNode, Turned};
 
 use words::Kind;
-
-// What a search answers.
-#[derive(Clone, Copy)]
-pub enum Explored {
-    // The number of nodes, and of edges that lead to a node.
-    Whole(usize, usize),
-    // One node too many.
-    Full,
-}
 
 // How many words of a record come before its edges: the node's word, its origin and its distance.
 pub const HEADER: usize = 3;
 
 // Where in a record the origin stands.
-pub const ORIGIN_OFFSET: usize = 1;
+const ORIGIN_OFFSET: usize = 1;
 
 // Where in a record the distance stands.
 const DISTANCE_OFFSET: usize = 2;
@@ -74,62 +66,73 @@ pub fn clear(list: &mut [u32], n: usize)
     requires { n ≤ length list.old }
     ensures { list.new ≡ replicate n 0 ++ drop n list.old }
 {
-    let mut i: usize = 0;
-    while i < n {
-        list[i] = 0;
-        i += 1;
-    }
+    list[..n].fill(0);
 }
 
 // Where the table of hints speaks of the word w. Any factor would do; with this one few sets of literals share a place.
 fn hint_place(w: u32) -> usize
     ensures { result < hint_count }
 {
-    (w as u64 * 3116128017 / 1048576 % 4096) as usize
+    (u64::from(w) * 3116128017 / 1048576 % 4096) as usize
 }
 
-// Which of n nodes has the word w, or n: the first one tried is the hint's, which may be any, then all from the last one down. Where all words
-// differ, the one that is found is the first.
-fn find(graph: &[u32], hints: &[u16], n: usize, actions: usize, w: u32) -> usize
-    requires { (graph_words ≤ length graph.now) × (hint_count ≤ length hints.now) × (0 < n) × (n ≤ most_nodes) × (actions ≤ 16) }
-    ensures { (result ≤ n) × (Firsts (column graph.now actions 0 n) → result ≡ seek w (column graph.now actions 0 n)) }
-{
-    let step = HEADER + actions;
-    let mut i = hints[hint_place(w)] as usize;
-    if n <= i {
-        i = 0;
+// The records of a graph in a list, read.
+#[derive(Clone, Copy)]
+pub struct Records<'a> {
+    pub list: &'a [u32],
+    // How many edges each has.
+    pub actions: usize,
+    pub ghost whole: { graph_words ≤ length list.now },
+    pub ghost few: { actions ≤ 16 },
+}
+
+impl Records<'_> {
+    // The word of node k.
+    pub fn word(self, k: usize) -> u32
+        requires { k < most_nodes }
+        ensures { result ≡ get_or self.entry.list.now (record_place self.entry.actions k) 0 }
+    {
+        self.list[record_place(self.actions, k)]
     }
-    let mut left = n;
-    let at = loop {
-        if graph[i * step] == w {
-            break i;
-        }
-        if left == 0 {
-            break n;
-        }
-        left -= 1;
-        i = left;
-    };
-    at
-}
 
-// The word of node k.
-pub fn word_at(graph: &[u32], actions: usize, k: usize) -> u32
-    requires { (graph_words ≤ length graph.now) × (actions ≤ 16) × (k < most_nodes) }
-    ensures { result ≡ get_or graph.now (record_place actions k) 0 }
-{
-    let at = record_place(actions, k);
-    graph[at]
-}
+    // The origin word of node k.
+    pub fn origin(self, k: usize) -> u32
+        requires { k < most_nodes }
+        ensures { result ≡ origin_at self.entry.list.now self.entry.actions k }
+    {
+        self.list[record_place(self.actions, k) + ORIGIN_OFFSET]
+    }
 
-// The distance of node k, which is its word's payload: the kind is 0.
-fn distance_at(graph: &[u32], actions: usize, k: usize) -> u32
-    requires { (graph_words ≤ length graph.now) × (actions ≤ 16) × (k < most_nodes)
-        × (get_or graph.now (record_place actions k + distance_offset) 0 ≤ k) }
-    ensures { (result ≡ get_or graph.now (record_place actions k + distance_offset) 0) × (result ≤ k) }
-{
-    let at = record_place(actions, k);
-    graph[at + DISTANCE_OFFSET]
+    // The distance of node k, which is its word's payload: the kind is 0.
+    fn distance(self, k: usize) -> u32
+        requires { (k < most_nodes) × (get_or self.list.now (record_place self.actions k + distance_offset) 0 ≤ k) }
+        ensures { (result ≡ get_or self.entry.list.now (record_place self.entry.actions k + distance_offset) 0) × (result ≤ k) }
+    {
+        self.list[record_place(self.actions, k) + DISTANCE_OFFSET]
+    }
+
+    // Which of n nodes has the word w: the first one tried is the hint's, which may be any, then all from the last one down. Where all words differ,
+    // the one that is found is the first.
+    fn find(self, hints: &[u16], n: usize, w: u32) -> Option<usize>
+        requires { (hint_count ≤ length hints.now) × (0 < n) × (n ≤ most_nodes) }
+        ensures { Sought (column self.entry.list.now self.entry.actions 0 n) w n result }
+    {
+        let step = HEADER + self.actions;
+        let hint = usize::from(hints[hint_place(w)]);
+        let mut i = if hint < n { hint } else { 0 };
+        let mut left = n;
+        // The scope document names this form: a loop that breaks with the index found.
+        loop {
+            if self.list[i * step] == w {
+                break Some(i);
+            }
+            if left == 0 {
+                break None;
+            }
+            left -= 1;
+            i = left;
+        }
+    }
 }
 
 // The record of a node, as yet without edges.
@@ -147,7 +150,7 @@ pub fn begin(graph: &mut [u32], w: u32)
     requires { header ≤ length graph.old }
     ensures { graph.new ≡ headed graph.old 0 w (origin_word Root) (distance_word 0) }
 {
-    store(&mut *graph, 0, w, root_word(), 0);
+    store(graph, 0, w, root_word(), 0);
 }
 
 // Action j has no successor at node k.
@@ -158,15 +161,14 @@ pub fn enter_none(
     actions: usize,
     k: usize,
     j: usize,
-) -> Explored
-    requires { (graph_words ≤ length graph.old) × (nodes ≤ most_nodes) × (actions ≤ 16) × (k < nodes) × (j < actions) × (edges ≤ k * actions + j)
-        × Near graph.old actions nodes }
-    ensures { Turned (λ h. answered most_nodes h (From k j) None) graph.old actions nodes edges (k * actions + j) result graph.new
+) -> Option<(usize, usize)>
+    requires { AtNode graph.old nodes edges actions k (k * actions + j) × (j < actions) }
+    ensures { Turned (λ h. answered most_nodes h (From k j) Nowhere) graph.old actions nodes edges (k * actions + j) result graph.new
         (k * actions + j + 1) }
 {
     let place = edge_place(actions, k, j);
     graph[place] = Kind::EDGE.word(words::NO_NODE);
-    Explored::Whole(nodes, edges)
+    Some((nodes, edges))
 }
 
 // Action j leads from node k to the word w: its edge, and the record of w if it is new.
@@ -179,27 +181,31 @@ pub fn enter(
     k: usize,
     j: usize,
     w: u32,
-) -> Explored
-    requires { (graph_words ≤ length graph.old) × (hint_count ≤ length hints.old) × (nodes ≤ most_nodes) × (actions ≤ 16) × (k < nodes) × (j < actions)
-        × (edges ≤ k * actions + j) × Near graph.old actions nodes }
+) -> Option<(usize, usize)>
+    requires { AtNode graph.old nodes edges actions k (k * actions + j) × (j < actions) × (hint_count ≤ length hints.old) }
     ensures turn { Turned (λ h. answered most_nodes h (From k j) (To w)) graph.old actions nodes edges (k * actions + j) result graph.new
         (k * actions + j + 1) }
     ensures hints { hint_count ≤ length hints.new }
 {
-    let at = find(&graph[..], &hints[..], nodes, actions, w);
-    let known = hint_place(w);
-    hints[known] = at as u16;
+    let records = Records {
+        list: graph,
+        actions,
+    };
+    let found = records.find(hints, nodes, w);
+    hints[hint_place(w)] = found.unwrap_or(nodes) as u16;
     let place = edge_place(actions, k, j);
-    if at < nodes {
-        graph[place] = edge_word(at);
-        return Explored::Whole(nodes, edges + 1);
+    match found {
+        Some(at) => {
+            graph[place] = edge_word(at);
+            Some((nodes, edges + 1))
+        }
+        None if nodes == words::NODES => None,
+        None => {
+            let new = record_place(actions, nodes);
+            let parent = records.distance(k);
+            store(graph, new, w, origin_word(k, j), parent + 1);
+            graph[place] = edge_word(nodes);
+            Some((nodes + 1, edges + 1))
+        }
     }
-    if nodes == words::NODES {
-        return Explored::Full;
-    }
-    let new = record_place(actions, nodes);
-    let parent = distance_at(&graph[..], actions, k);
-    store(&mut *graph, new, w, origin_word(k, j), parent + 1);
-    graph[place] = edge_word(nodes);
-    Explored::Whole(nodes + 1, edges + 1)
 }

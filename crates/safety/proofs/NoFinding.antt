@@ -17,7 +17,9 @@ use Rattle.words.specs.LiteralSets.{Literal, literals_in}
 use Rattle.search.specs.Search.{Graph, count}
 use Rattle.abstraction.specs.Abstraction.{applies, successor}
 use Rattle.abstraction.specs.Faithful.{literals_at}
-use Rattle.verdict.specs.Verdicts.{Finding, RunOff, Forbid, contradicted, unless, forbids, ends, has_next, runs_off, findings_at, findings_from, findings}
+use Rattle.verdict.specs.Verdicts.{contradicted, unless, forbids, ends, has_next, runs_off, findings_at, findings_from, findings}
+use Rattle.verdict.specs.declared.Finding.{Finding}
+use Rattle.verdict.specs.declared.Finding.TheVariants.{RunOff, Forbid}
 use Rattle.safety.proofs.Literals.{TrueAt, not-met}
 
 none_split : (xs ys : List Finding) → xs ++ ys ≡ [] → (xs ≡ []) × (ys ≡ [])

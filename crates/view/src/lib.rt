@@ -14,56 +14,47 @@ pub struct View<'a> {
     actions: usize,
 }
 
-// What a view answers.
-#[derive(Clone, Copy)]
-pub enum Viewed {
-    // The successor's number.
-    Node(usize),
-    // There is no successor.
-    None,
-    Refused(Refusal),
-}
-
-// What the word w, which stands at a place, says of a successor.
-fn edge_of(w: u32, at: usize) -> Viewed
+// What the word w, which stands at a place, says of a successor: its number, or that there is none.
+fn edge_of(w: u32, at: usize) -> Result<Option<usize>, Refusal>
     ensures { result ≡ edge_of w at }
 {
-    if !Kind::of(w).is(Kind::EDGE) {
-        return Viewed::Refused(Refusal::Word(at));
+    if Kind::of(w) != Kind::EDGE {
+        return Err(Refusal::Word(at));
     }
     let to = words::count(w);
     if to == words::NO_NODE as usize {
-        return Viewed::None;
+        return Ok(None);
     }
-    Viewed::Node(to)
+    Ok(Some(to))
 }
 
 // The successor for a node and an action, read from the list.
+#[tactic(auto, using(crate::proofs::Reading::size_is), unfolding(crate::specs::Views::viewed))]
 pub fn successor_at(
     graph: &[u32],
     nodes: usize,
     actions: usize,
     node: usize,
     action: usize,
-) -> Viewed
+) -> Result<Option<usize>, Refusal>
     ensures { result ≡ viewed graph.now nodes actions node action }
 {
     if words::NODES < nodes {
-        return Viewed::Refused(Refusal::Limit(0));
+        return Err(Refusal::Limit(0));
     }
     if words::ACTIONS < actions {
-        return Viewed::Refused(Refusal::Limit(0));
+        return Err(Refusal::Limit(0));
     }
     // A record is as long as the place where the second one begins.
     let size = records::record_place(actions, 1);
     if graph.len() < nodes * size {
-        return Viewed::Refused(Refusal::Short(0));
+        return Err(Refusal::Short(0));
     }
     if nodes <= node {
-        return Viewed::Refused(Refusal::Absent(node));
+        return Err(Refusal::Absent(node));
     }
     if actions <= action {
-        return Viewed::Refused(Refusal::Absent(action));
+        return Err(Refusal::Absent(action));
     }
     let at = records::edge_place(actions, node, action);
     edge_of(graph[at], at)
@@ -82,7 +73,7 @@ impl<'a> View<'a> {
     }
 
     // The successor for a node and an action.
-    pub fn successor(self, node: usize, action: usize) -> Viewed
+    pub fn successor(self, node: usize, action: usize) -> Result<Option<usize>, Refusal>
         ensures { result ≡ viewed self.entry.graph.now self.entry.nodes self.entry.actions node action }
     {
         successor_at(self.graph, self.nodes, self.actions, node, action)
@@ -96,7 +87,7 @@ pub fn successor_of(
     actions: usize,
     node: usize,
     action: usize,
-) -> Viewed
+) -> Result<Option<usize>, Refusal>
     ensures { result ≡ viewed graph.now nodes actions node action }
 {
     View::new(graph, nodes, actions).successor(node, action)

@@ -1,9 +1,6 @@
--- The list holds the graph after the first k nodes, `Running`, the hints are as many as before, and the block is usable. The measure is what is left of the most nodes
+-- The list holds the graph after the first k nodes, `Running`, and the block is usable. The measure is what is left of the most nodes
 -- that there may be.
 use Prim.Native.Nat.{◌-◌}
-use mathlib.Core.Path.{◌≡◌}
-use lib.ListN.{length}
-use Rattle.gather.specs.Gathering.{entries}
 use Rattle.records.specs.Records.{most_nodes}
 use Rattle.graph.specs.Graph.{next_of, Usable}
 use Rattle.graph.proofs.Nodes.{Running}
@@ -11,8 +8,8 @@ use Rattle.graph.proofs.explore_from.Given as goal
 
 abbrev pub invariant-loop-k : goal.invariant-loop-k
 invariant-loop-k l =
-    Running (next_of (entries l.premises l.keys l.n) l.kept) l.actions l.start l.initial.graph l.graph l.nodes l.edges l.k × (length l.hints ≡ length l.initial.hints) × (length l.scratch ≡ length l.initial.scratch)
-    × Usable l.kept l.words (entries l.premises l.keys l.n) l.scratch l.gone
+    Running (next_of l.entries l.kept) l.actions l.start l.initial.graph l.graph l.nodes l.edges l.k
+    × Usable l.kept l.words l.entries l.scratch l.gone
 
 abbrev pub decreases-loop-k : goal.decreases-loop-k
 decreases-loop-k l = most_nodes - l.k

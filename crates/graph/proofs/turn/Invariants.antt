@@ -1,14 +1,10 @@
--- The list holds the graph after the first j actions, `Going`, and the hints are as many as before. The measure is what is left of the actions.
-use Prim.Native.Nat.{◌-◌}
-use mathlib.Core.Path.{◌≡◌}
-use lib.ListN.{length}
-use Rattle.gather.specs.Gathering.{entries}
-use Rattle.graph.specs.Graph.{next_of}
+-- The list holds the graph after the first j actions, `Going`.
+use lib.ListN.{get_or}
+use Rattle.records.specs.Records.{record_place}
+use Rattle.graph.specs.Graph.{Gives}
 use Rattle.graph.proofs.Turns.{Going}
 use Rattle.graph.proofs.turn.Given as goal
 
 abbrev pub invariant-loop-j : goal.invariant-loop-j
-invariant-loop-j l = Going (next_of (entries l.premises l.keys l.n) l.kept) l.initial.graph l.nodes l.edges l.k l.actions l.graph l.m l.x l.j × (length l.hints ≡ length l.initial.hints)
-
-abbrev pub decreases-loop-j : goal.decreases-loop-j
-decreases-loop-j l = l.actions - l.j
+invariant-loop-j g l =
+    Going (Gives (goal.F-post g l.next) l.actions (get_or l.initial.graph (record_place l.actions l.k) 0)) l.initial.graph l.fn.nodes l.fn.edges l.k l.actions l.graph l.counts.0 l.counts.1 l.j
