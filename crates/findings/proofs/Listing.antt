@@ -4,20 +4,20 @@
 --     none-laid, all_laid  none, and some that fit, in a list that was cleared
 use mathlib.Core.Path.{◌≡◌, refl, ap, ◌∙◌}
 use mathlib.Core.Bool.{Bool, true, false, cond}
-use mathlib.Core.List.{List, [], ◌∷◌, ◌++◌, map, append-nil}
+use mathlib.Core.List.{List, [], ◌∷◌, ◌++◌, map}
 use Prim.Native.Nat.{ℕ, zero, suc, ◌+◌, ◌-◌, ◌<◌, ◌≤◌}
 use native.Mathlib.Omega.{arith}
 use lib.Dec.{ltb}
-use lib.ListN.{length, drop, replicate, length-map, length-replicate, drop_of_length-le}
+use lib.ListN.{length, drop, replicate, length-map, length-replicate}
 use lib.Seq.{sets, sets-eq}
 use borrow.Author.Tests.{lt-ltb, le-ltb}
 use Rattle.words.specs.declared.Refusal.TheVariants.{Findings}
-use Rattle.verdict.specs.Verdicts.{Finding}
+use Rattle.verdict.specs.declared.Finding.{Finding}
 use Rattle.sheet.specs.Sheets.{finding_word}
 use Rattle.sheet.specs.Laying.{Laid}
 use Rattle.findings.specs.Calls.{keep, list_all}
-use Rattle.findings.specs.declared.Listed.{Listed}
-use Rattle.findings.specs.declared.Listed.TheVariants.{All, Refused}
+use Rattle.std.specs.Prelude.{Result, Ok, Err}
+use Rattle.words.specs.declared.Refusal.{Refusal}
 
 drop-zeros : (k m : ℕ) → drop {A = ℕ} k (replicate m 0) ≡ replicate (m - k) 0
 drop-zeros zero m = let e : m - 0 ≡ m = omega arith in rw e refl
@@ -26,14 +26,14 @@ drop-zeros (suc k) (suc m) = let e : suc m - suc k ≡ m - k = omega arith in rw
 
 module _ (fs : List Finding) (gl fl : List ℕ) where
   -- an answer and a findings list are those of all findings listed
-  abbrev pub Lists : Listed → List ℕ → Type 0
+  abbrev pub Lists : Result ℕ Refusal → List ℕ → Type 0
   Lists r fl' = (r ≡ (list_all fs gl fl).answer) × (fl' ≡ (list_all fs gl fl).list)
 
   pub graph-kept : (list_all fs gl fl).graph ≡ gl
   graph-kept = go (ltb (length fl) (length fs))
     where
-      go : (t : Bool) → (cond t (keep (Refused (Findings (length fs))) gl fl)
-          (record { answer = All (length fs); graph = gl; list = map finding_word fs ++ replicate (length fl - length fs) 0 })).graph ≡ gl
+      go : (t : Bool) → (cond t (keep (Err (Findings (length fs))) gl fl)
+          (record { answer = Ok (length fs); graph = gl; list = map finding_word fs ++ replicate (length fl - length fs) 0 })).graph ≡ gl
       go true = refl
       go false = refl
 
@@ -41,13 +41,10 @@ module _ (fs : List Finding) (gl fl : List ℕ) where
     same : n ≡ length fs
     same = omega (arith, counted.places)
 
-    pub too_short : length fl < n → Lists (Refused (Findings n)) fl
+    pub too_short : length fl < n → Lists (Err (Findings n)) fl
     too_short h = let e = lt-ltb (length fl) (length fs) (omega (arith, h, same)) in (rw (e, same) refl, rw e refl)
 
-    module _ (h : n ≤ length fl) {l'' : List ℕ} (cleared : l'' ≡ replicate (length fl) 0 ++ drop (length fl) fl) where
-      zeros : l'' ≡ replicate (length fl) 0
-      zeros = cleared ∙ ap (λ (r : List ℕ). replicate (length fl) 0 ++ r) (drop_of_length-le fl {i = length fl} (omega arith)) ∙ append-nil (replicate (length fl) 0)
-
+    module _ (h : n ≤ length fl) {l'' : List ℕ} (zeros : l'' ≡ replicate (length fl) 0) where
       laid : sets l'' 0 (map finding_word fs) ≡ map finding_word fs ++ replicate (length fl - length fs) 0
       laid =
           let words : length (map finding_word fs) ≡ length fs = length-map fs finding_word in
@@ -56,13 +53,13 @@ module _ (fs : List Finding) (gl fl : List ℕ) where
           rw zeros (sets-eq (map finding_word fs) (replicate (length fl) 0) 0 room)
           ∙ ap (λ (k : ℕ). map finding_word fs ++ drop k (replicate (length fl) 0)) taken ∙ ap (λ (r : List ℕ). map finding_word fs ++ r) (drop-zeros (length fs) (length fl))
 
-      listed : {fl' : List ℕ} → fl' ≡ sets l'' 0 (map finding_word fs) → Lists (All n) fl'
+      listed : {fl' : List ℕ} → fl' ≡ sets l'' 0 (map finding_word fs) → Lists (Ok n) fl'
       listed q = let e = le-ltb (length fl) (length fs) (omega (arith, h, same)) in (rw (e, same) refl, rw e (q ∙ laid))
 
-      pub all_laid : {fl' : List ℕ} {m : ℕ} → Laid fs l'' 0 fl' m → Lists (All n) fl'
+      pub all_laid : {fl' : List ℕ} {m : ℕ} → Laid fs l'' 0 fl' m → Lists (Ok n) fl'
       all_laid d = listed d.words
 
-      pub none-laid : n ≤ 0 → Lists (All n) l''
+      pub none-laid : n ≤ 0 → Lists (Ok n) l''
       none-laid z = listed (none fs (omega (arith, z, same)))
         where
           none : (xs : List Finding) → length xs ≤ 0 → l'' ≡ sets l'' 0 (map finding_word xs)

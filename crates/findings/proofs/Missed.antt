@@ -25,14 +25,15 @@ use Rattle.frame.proofs.Frame.{unset_kept}
 use Rattle.search.specs.Search.{Graph, edge}
 use Rattle.abstraction.specs.Abstraction.{applies, successor}
 use Rattle.abstraction.specs.Faithful.{literals_at, Faithful}
-use Rattle.verdict.specs.Verdicts.{Forbid, RunOff, contradicted}
+use Rattle.verdict.specs.Verdicts.{contradicted}
+use Rattle.verdict.specs.declared.Finding.TheVariants.{Forbid, RunOff}
 use Rattle.safety.proofs.Literals.{not-met}
 use Rattle.safety.proofs.Successors.{claims, successor-true}
 use Rattle.safety.proofs.Safety.{Known, Next, next, action-happens, known_start}
 use Rattle.sheet.specs.Sheets.{Due, Told}
 
 not-both : {P : Type 0} {b : Bool} → b ≡ true → b ≡ false → P
-not-both h e = let z : ◌≡◌ {A = ℕ} 0 1 = cc in absurd (omega arith)
+not-both h e = cc
 
 -- the value of the lowest variable that is off its range is off it
 off-there : (gs : List Range) (xs : List ℤ) → length xs ≡ length gs → lowest_off gs xs < length gs
@@ -136,8 +137,8 @@ module _ (p : Program) (ok : WellFormed p) (ls : List Lemma) (good : Each (Lemma
     told = record { combinations = combination-told; run-offs = λ j v l. go j v l (step p j s) (stepped p j s) }
       where
         go : (j v : ℕ) → j < length p.actions → (o : Outcome) → Stepped p j s o → o ≡ RunsOff v → (k : ℕ) × (high : Bool) × Due p ls g (RunOff k j v high)
-        go j v l NotEnabled waits e = let z : ◌≡◌ {A = ℕ} 0 1 = cc in absurd (omega arith)
-        go j v l (Moved t) (moves on q) e = let z : ◌≡◌ {A = ℕ} 0 1 = cc in absurd (omega arith)
+        go j v l NotEnabled waits e = cc
+        go j v l (Moved t) (moves on q) e = cc
         go j v l (RunsOff u) (leaves on q) e =
             let same : lowest_off p.ranges (new_state (action_of p j) s) ≡ v = cc e in
             end-told j l on v (omega (arith, q, same)) (rw same at (off-there p.ranges (new_state (action_of p j) s) (after-long j l on) q))

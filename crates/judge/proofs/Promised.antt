@@ -5,6 +5,8 @@ use mathlib.Core.List.{List, [], ◌∷◌}
 use Prim.Native.Nat.{ℕ, ◌<◌, ◌≤◌}
 use native.Mathlib.Omega.{arith}
 use lib.Dec.{ltb}
+use Rattle.std.specs.Prelude.{Ok, Err}
+use Rattle.std.specs.Prelude.{Result as Answer}
 use lib.ListN.{length}
 use Rattle.words.specs.Refusals.{number}
 use Rattle.words.specs.declared.Refusal.{Refusal}
@@ -27,12 +29,14 @@ use Rattle.abstraction.proofs.Demand2.{demand2}
 use Rattle.abstraction.proofs.Unique.{distance-path}
 use Rattle.abstraction.proofs.Shortest.{path-walk}
 use Rattle.tables.specs.Off.{first_off}
-use Rattle.verdict.specs.Verdicts.{Finding, Forbid, RunOff, findings, node_of, path_words, path_list, steps_to}
+use Rattle.verdict.specs.Verdicts.{findings, node_of, path_words, path_list, steps_to}
+use Rattle.verdict.specs.declared.Finding.{Finding}
+use Rattle.verdict.specs.declared.Finding.TheVariants.{Forbid, RunOff}
 use Rattle.safety.proofs.Safety.{safe}
 use Rattle.survey.specs.Surveys.{Survey, stops, draws, survey_graph, survey_lemmas, survey_program}
 use Rattle.judge.specs.Calls.{Judgement, keep, verdict, path_to, judge_survey, judge}
 use Rattle.judge.specs.Worth.{OfRead, Drawn, Walked, Demand2Of, SafeOf}
-use Rattle.judge.specs.declared.Judged.TheVariants.{Refused}
+use Rattle.judge.specs.declared.Judged.{Judged}
 use Rattle.judge.specs.declared.Judged.TheVariants.{Safe as IsSafe}
 use Rattle.judge.proofs.Walks.{findings-within, graph-few}
 
@@ -115,11 +119,11 @@ module _ (ws lemmas gl pl : List ℕ) (P : Judgement → Type 0) where
   by-test true x y h k = h
   by-test false x y h k = k
 
-  pub of-judge : ((n : ℕ) → P (keep (Refused (Short n)) gl pl)) → P (judge_survey (survey_program (read ws) lemmas gl) pl) → P (judge ws lemmas gl pl)
+  pub of-judge : ((n : ℕ) → P (keep (Err (Short n)) gl pl)) → P (judge_survey (survey_program (read ws) lemmas gl) pl) → P (judge ws lemmas gl pl)
   of-judge short rest =
       let inner = judge_survey (survey_program (read ws) lemmas gl) pl in
-      by-test (ltb (length gl) graph_words) (keep (Refused (Short 0)) gl pl) (cond (ltb (length pl) path_words) (keep (Refused (Short 1)) gl pl) inner) (short 0)
-      (by-test (ltb (length pl) path_words) (keep (Refused (Short 1)) gl pl) inner (short 1) rest)
+      by-test (ltb (length gl) graph_words) (keep (Err (Short 0)) gl pl) (cond (ltb (length pl) path_words) (keep (Err (Short 1)) gl pl) inner) (short 0)
+      (by-test (ltb (length pl) path_words) (keep (Err (Short 1)) gl pl) inner (short 1) rest)
 
 -- ---- demand 2
 -- of a judgement, with the two lists at entry
@@ -136,7 +140,7 @@ module _ (ws lemmas gl pl : List ℕ) where
       words = refl;
     }
 
-    verdict-worthy : (fs : List Finding) → Each (λ f. node_of f < count g) fs → Demand2Of ws lemmas (verdict g fs) gl gl' pl (path_list (path_to g fs) pl)
+    verdict-worthy : (fs : List Finding) → Each (λ f. node_of f < count g) fs → Demand2Of ws lemmas (Ok (verdict g fs)) gl gl' pl (path_list (path_to g fs) pl)
     verdict-worthy [] h = of-read k _ (g, k.drawn)
     verdict-worthy (Forbid n b ∷ fs) h = of-read k _ (g, k.drawn, walked n h.0)
     verdict-worthy (RunOff n a v high ∷ fs) h = of-read k _ (g, k.drawn, walked n h.0)
@@ -145,25 +149,26 @@ module _ (ws lemmas gl pl : List ℕ) where
   survey-worthy (stops r gl') w = w.1
   survey-worthy (draws p ls g gl') w = verdict-worthy p ls g gl' w (findings p ls g) (findings-within p ls g)
 
+  pub surveyed-demand2 : (s : Survey) → survey_program (read ws) lemmas gl ≡ s → Worthy ws lemmas gl pl (judge_survey s pl)
+  surveyed-demand2 s e = survey-worthy s (rw e at (survey-worth ws lemmas gl))
+
   pub judge-demand2 : Worthy ws lemmas gl pl (judge ws lemmas gl pl)
-  judge-demand2 =
-      of-judge ws lemmas gl pl (Worthy ws lemmas gl pl) (λ n. other (Short n) (λ z. omega arith))
-      (survey-worthy (survey_program (read ws) lemmas gl) (survey-worth ws lemmas gl))
+  judge-demand2 = of-judge ws lemmas gl pl (Worthy ws lemmas gl pl) (λ n. other (Short n) (λ z. omega arith)) (surveyed-demand2 (survey_program (read ws) lemmas gl) refl)
 
 -- ---- demand 3
-refused-safe : {P : Type 0} {r : Refusal} {n e : ℕ} → Refused r ≡ IsSafe n e → P
-refused-safe e = let z : ◌≡◌ {A = ℕ} 0 1 = cc in absurd (omega arith)
+refused-safe : {P : Type 0} {r : Refusal} {n e : ℕ} → ◌≡◌ {A = Answer Judged Refusal} (Err r) (Ok (IsSafe n e)) → P
+refused-safe e = absurd cc
 
-no_finding : (g : Graph) (fs : List Finding) {n e : ℕ} → verdict g fs ≡ IsSafe n e → fs ≡ []
+no_finding : (g : Graph) (fs : List Finding) {n e : ℕ} → ◌≡◌ {A = Answer Judged Refusal} (Ok (verdict g fs)) (Ok (IsSafe n e)) → fs ≡ []
 no_finding g [] h = refl
-no_finding g (Forbid k b ∷ fs) h = let z : ◌≡◌ {A = ℕ} 0 1 = cc in absurd (omega arith)
-no_finding g (RunOff k j v high ∷ fs) h = let z : ◌≡◌ {A = ℕ} 0 1 = cc in absurd (omega arith)
+no_finding g (Forbid k b ∷ fs) h = cc
+no_finding g (RunOff k j v high ∷ fs) h = cc
 
 module _ (ws lemmas gl pl : List ℕ) {n e : ℕ} where
-  survey-safe : (s : Survey) → Worth ws lemmas gl s → (judge_survey s pl).answer ≡ IsSafe n e → SafeOf (read ws)
+  survey-safe : (s : Survey) → Worth ws lemmas gl s → (judge_survey s pl).answer ≡ Ok (IsSafe n e) → SafeOf (read ws)
   survey-safe (stops r gl') w h = refused-safe h
   survey-safe (draws p ls g gl') w h = safe_if w (no_finding g (findings p ls g) h)
 
-  pub judge-safe : (judge ws lemmas gl pl).answer ≡ IsSafe n e → SafeOf (read ws)
+  pub judge-safe : (judge ws lemmas gl pl).answer ≡ Ok (IsSafe n e) → SafeOf (read ws)
   judge-safe =
-      of-judge ws lemmas gl pl (λ j. j.answer ≡ IsSafe n e → SafeOf (read ws)) (λ k. refused-safe) (survey-safe (survey_program (read ws) lemmas gl) (survey-worth ws lemmas gl))
+      of-judge ws lemmas gl pl (λ j. j.answer ≡ Ok (IsSafe n e) → SafeOf (read ws)) (λ k. refused-safe) (survey-safe (survey_program (read ws) lemmas gl) (survey-worth ws lemmas gl))

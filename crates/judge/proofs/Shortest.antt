@@ -11,6 +11,7 @@ use Prim.Native.Nat.{ℕ, zero, suc, ◌<◌, ◌≤◌}
 use native.Mathlib.Omega.{arith}
 use borrow.Author.Tests.{lt-ltb, ltb-true, ne_eqb}
 use lib.Dec.{ltb}
+use Rattle.std.specs.Prelude.{Ok}
 use lib.ListN.{length, get_or}
 use Rattle.words.specs.Words.{payload, EDGE, no_node}
 use Rattle.words.proofs.Laws.{kind_word, payload-word}
@@ -27,7 +28,9 @@ use Rattle.records.proofs.Listed.{edge_at}
 use Rattle.abstraction.specs.Faithful.{Faithful}
 use Rattle.abstraction.proofs.Unique.{distance-path}
 use Rattle.abstraction.proofs.Shortest.{rising, edge-near, walk-far, path-walk}
-use Rattle.verdict.specs.Verdicts.{Finding, Forbid, RunOff, findings_at, findings_from, findings, node_of, path_list, steps_to}
+use Rattle.verdict.specs.Verdicts.{findings_at, findings_from, findings, node_of, path_list, steps_to}
+use Rattle.verdict.specs.declared.Finding.{Finding}
+use Rattle.verdict.specs.declared.Finding.TheVariants.{Forbid, RunOff}
 use Rattle.sheet.specs.Sheets.{Due}
 use Rattle.sheet.proofs.Pieces.{pieces, in_pieces}
 use Rattle.sheet.proofs.Dues.{findings-are}
@@ -76,11 +79,11 @@ module _ (p : Program) (ls : List Lemma) (g : Graph) (f : Faithful p ls g) where
         by : j < actions → (x : Answer) → edge actions g k j ≡ x → onward x (λ m. walk_end actions gl m js) ≡ To n
             → ((m n : ℕ) → m < count g → walk_end actions gl m js ≡ To n → Walk actions g m js n) → Walk actions g k (j ∷ js) n
         by l (To m) q s on = go l q (on m n (edge-near p ls g f k j m h l q).0 s)
-        by l None q s on = let z : ◌≡◌ {A = ℕ} 0 1 = cc in absurd (omega arith)
+        by l None q s on = cc
 
         test : (b : Bool) → ltb j actions ≡ b → ((m n : ℕ) → m < count g → walk_end actions gl m js ≡ To n → Walk actions g m js n) → Walk actions g k (j ∷ js) n
         test true t on = let l = ltb-true j actions t in by l (edge actions g k j) refl (sym (word-step js k j h l) ∙ e) on
-        test false t on = let no : None ≡ To n = rw t at e in let z : ◌≡◌ {A = ℕ} 0 1 = cc in absurd (omega arith)
+        test false t on = let no : None ≡ To n = rw t at e in cc
 
     from-walk : {js : List ℕ} {k n : ℕ} → k < count g → Walk actions g k js n → walk_end actions gl k js ≡ To n
     unfolding walk_end onward
@@ -152,7 +155,7 @@ module _ (ws lemmas gl pl : List ℕ) where
           safe-before p k.good ls k.lemmas_good g f (length (steps_to g (node_of x))) (clear p ls g f x fs e few),
         )
 
-    verdict-short : (fs : List Finding) → findings p ls g ≡ fs → ShortestOf ws lemmas (verdict g fs) gl' (path_list (path_to g fs) pl)
+    verdict-short : (fs : List Finding) → findings p ls g ≡ fs → ShortestOf ws lemmas (Ok (verdict g fs)) gl' (path_list (path_to g fs) pl)
     verdict-short [] e = tt
     verdict-short (Forbid n b ∷ fs) e = of-read k _ (shortest (Forbid n b) fs e)
     verdict-short (RunOff n a v high ∷ fs) e = of-read k _ (shortest (RunOff n a v high) fs e)

@@ -18,7 +18,9 @@ use Rattle.search.proofs.Theorem.{Whole, whole}
 use Rattle.records.specs.Records.{most_nodes}
 use Rattle.abstraction.specs.Abstraction.{applies, successor, start, answer, graph}
 use Rattle.abstraction.specs.Faithful.{literals_at}
-use Rattle.verdict.specs.Verdicts.{Finding, Forbid, RunOff, contradicted, unless, forbids, ends, has_next, runs_off, findings_at, findings_from, findings, node_of}
+use Rattle.verdict.specs.Verdicts.{contradicted, unless, forbids, ends, has_next, runs_off, findings_at, findings_from, findings, node_of}
+use Rattle.verdict.specs.declared.Finding.{Finding}
+use Rattle.verdict.specs.declared.Finding.TheVariants.{Forbid, RunOff}
 
 -- ---- every finding is at a node of the graph
 abbrev pub At : ℕ → List Finding → Type 0

@@ -7,7 +7,8 @@
 -- SafeBefore — every run from a start state that makes fewer than n moves is safe
 -- Shortest   — all three, of the graph that formula (3) describes and of as many steps as there are STEP words
 -- ShortestOf — of an answer: where it is a finding, with both lists at exit
-use Rattle.std.specs.Prelude.{◌≡◌, cond, ◌&&◌, List, [], ◌∷◌, ℕ, ◌≤◌, ◌<◌, ltb, ℤ, length, get_or}
+use Rattle.std.specs.Prelude.{◌≡◌, cond, ◌&&◌, List, [], ◌∷◌, ℕ, ◌≤◌, ◌<◌, ltb, ℤ, length, get_or, Result, Ok, Err}
+use Rattle.words.specs.declared.Refusal.{Refusal}
 use Rattle.words.specs.Words.{payload}
 use Rattle.grammar.specs.Programs.{Program}
 use Rattle.grammar.specs.WellFormed.{Each}
@@ -19,11 +20,12 @@ use Rattle.search.specs.Paths.{Walk}
 use Rattle.records.specs.Records.{edge_place}
 use Rattle.records.specs.Naming.{names}
 use Rattle.abstraction.specs.Faithful.{Faithful}
-use Rattle.verdict.specs.Verdicts.{Finding, node_of, steps_in}
+use Rattle.verdict.specs.Verdicts.{node_of, steps_in}
+use Rattle.verdict.specs.declared.Finding.{Finding}
 use Rattle.sheet.specs.Sheets.{Due}
 use Rattle.judge.specs.Worth.{OfRead}
 use Rattle.judge.specs.declared.Judged.{Judged}
-use Rattle.judge.specs.declared.Judged.TheVariants.{MayForbid, MayRunOff, Refused}
+use Rattle.judge.specs.declared.Judged.TheVariants.{MayForbid, MayRunOff}
 use Rattle.judge.specs.declared.Judged.TheVariants.{Safe as IsSafe}
 
 unfoldable pub walk_end : ℕ → List ℕ → ℕ → List ℕ → Answer
@@ -45,8 +47,8 @@ abbrev pub Shortest : List ℕ → List ℕ → Program → List Lemma → Type 
 Shortest gl pl p ls =
     (g : Graph) × Faithful p ls g × Least p ls g (length (steps_in pl)) × Unbeaten p ls g gl pl × SafeBefore p (length (steps_in pl))
 
-abbrev pub ShortestOf : List ℕ → List ℕ → Judged → List ℕ → List ℕ → Type 0
-ShortestOf ws lemmas (IsSafe n e) gl pl = Unit {0}
-ShortestOf ws lemmas (MayForbid k b n e) gl pl = OfRead (Shortest gl pl) (read ws) lemmas
-ShortestOf ws lemmas (MayRunOff k j v high n e) gl pl = OfRead (Shortest gl pl) (read ws) lemmas
-ShortestOf ws lemmas (Refused r) gl pl = Unit {0}
+abbrev pub ShortestOf : List ℕ → List ℕ → Result Judged Refusal → List ℕ → List ℕ → Type 0
+ShortestOf ws lemmas (Ok (IsSafe n e)) gl pl = Unit {0}
+ShortestOf ws lemmas (Ok (MayForbid k b n e)) gl pl = OfRead (Shortest gl pl) (read ws) lemmas
+ShortestOf ws lemmas (Ok (MayRunOff k j v high n e)) gl pl = OfRead (Shortest gl pl) (read ws) lemmas
+ShortestOf ws lemmas (Err r) gl pl = Unit {0}

@@ -6,7 +6,8 @@
 -- GraphLeft, PathLeft — the first, of the words that were read; both
 -- Demand2Of      — of an answer: a verdict leaves the graph with its counts, and a finding the walk to its node; refusal 7 says that too many are reachable
 -- SafeOf         — demand 3, of the program that the words are
-use Rattle.std.specs.Prelude.{◌≡◌, List, ℕ, ◌≤◌, length}
+use Rattle.std.specs.Prelude.{◌≡◌, List, ℕ, ◌≤◌, length, Result, Ok, Err}
+use Rattle.words.specs.declared.Refusal.{Refusal}
 use Rattle.words.specs.declared.Refusal.TheVariants.{Nodes}
 use Rattle.grammar.specs.Reading.{Read, got, refused}
 use Rattle.grammar.specs.Programs.{Program}
@@ -20,7 +21,7 @@ use Rattle.records.specs.Records.{most_nodes, graph_list}
 use Rattle.abstraction.specs.Faithful.{Faithful, TooMany}
 use Rattle.verdict.specs.Verdicts.{path_list}
 use Rattle.judge.specs.declared.Judged.{Judged}
-use Rattle.judge.specs.declared.Judged.TheVariants.{MayForbid, MayRunOff, Refused}
+use Rattle.judge.specs.declared.Judged.TheVariants.{MayForbid, MayRunOff}
 use Rattle.judge.specs.declared.Judged.TheVariants.{Safe as IsSafe}
 
 -- false of words that are no program or no lemma list
@@ -55,11 +56,11 @@ PathLeft ws lemmas node nodes edges gl gl' pl pl' =
     OfRead (λ p ls. (g : Graph) × Drawn p ls g nodes edges gl gl' × Walked p g node pl pl') (read ws) lemmas
 
 -- the answer, then the graph list and the path list, each at entry and at exit
-abbrev pub Demand2Of : List ℕ → List ℕ → Judged → List ℕ → List ℕ → List ℕ → List ℕ → Type 0
-Demand2Of ws lemmas (IsSafe n e) gl gl' pl pl' = GraphLeft ws lemmas n e gl gl'
-Demand2Of ws lemmas (MayForbid k b n e) gl gl' pl pl' = PathLeft ws lemmas k n e gl gl' pl pl'
-Demand2Of ws lemmas (MayRunOff k j v high n e) gl gl' pl pl' = PathLeft ws lemmas k n e gl gl' pl pl'
-Demand2Of ws lemmas (Refused r) gl gl' pl pl' = r ≡ Nodes → OfRead TooMany (read ws) lemmas
+abbrev pub Demand2Of : List ℕ → List ℕ → Result Judged Refusal → List ℕ → List ℕ → List ℕ → List ℕ → Type 0
+Demand2Of ws lemmas (Ok (IsSafe n e)) gl gl' pl pl' = GraphLeft ws lemmas n e gl gl'
+Demand2Of ws lemmas (Ok (MayForbid k b n e)) gl gl' pl pl' = PathLeft ws lemmas k n e gl gl' pl pl'
+Demand2Of ws lemmas (Ok (MayRunOff k j v high n e)) gl gl' pl pl' = PathLeft ws lemmas k n e gl gl' pl pl'
+Demand2Of ws lemmas (Err r) gl gl' pl pl' = r ≡ Nodes → OfRead TooMany (read ws) lemmas
 
 abbrev pub SafeOf : Read Program → Type 0
 SafeOf (got p ws i) = Safe p

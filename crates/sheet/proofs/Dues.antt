@@ -17,7 +17,9 @@ use Rattle.lemmas.specs.Lemmas.{Goal, Lemma}
 use Rattle.lemmas.specs.LemmaGrammar.{sets_variable}
 use Rattle.lemmas.proofs.LemmaLaws.{sets-known, action-rising}
 use Rattle.search.specs.Search.{Graph, count}
-use Rattle.verdict.specs.Verdicts.{Finding, Forbid, RunOff, unless, ends, findings}
+use Rattle.verdict.specs.Verdicts.{unless, ends, findings}
+use Rattle.verdict.specs.declared.Finding.{Finding}
+use Rattle.verdict.specs.declared.Finding.TheVariants.{Forbid, RunOff}
 use Rattle.sheet.specs.Sheets.{Fits, end_goal, Due}
 use Rattle.sheet.proofs.Pieces.{in_pieces, combinationsAt, actions_at, findings-pieces}
 

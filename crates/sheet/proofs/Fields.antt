@@ -5,7 +5,8 @@ use Prim.Native.Nat.{ℕ, ◌^◌, ◌<◌}
 use native.Mathlib.Omega.{arith}
 use lib.Dec.{eqb}
 use Rattle.words.specs.Words.{bits, kind_of, FINDING}
-use Rattle.verdict.specs.Verdicts.{Finding, Forbid, RunOff}
+use Rattle.verdict.specs.declared.Finding.{Finding}
+use Rattle.verdict.specs.declared.Finding.TheVariants.{Forbid, RunOff}
 use Rattle.sheet.specs.Sheets.{finding_word, Fits}
 
 -- the finding that a word's fields tell

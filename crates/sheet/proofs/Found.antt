@@ -26,17 +26,20 @@ use Rattle.lemmas.proofs.LemmaLaws.{action-rising}
 use Rattle.lemmas.proofs.HeadLaws.{marks-of}
 use Rattle.sets.specs.Sets.{bit_of}
 use Rattle.sets.proofs.Bits.{bit_lt, zero_or_one, bit-less}
-use Rattle.gather.specs.Gathering.{Entry, Table, low_end, high_end, place_of, known, missing}
-use Rattle.search.specs.Search.{Graph, count, node_word}
+use Rattle.gather.specs.Gathering.{Table, low_end, high_end, place_of, known, missing}
+use Rattle.search.specs.Search.{Graph, node_word}
 use Rattle.search.proofs.Count.{eq_or_ne}
 use Rattle.records.specs.Records.{record_place}
 use Rattle.abstraction.specs.Abstraction.{applies}
 use Rattle.abstraction.specs.Faithful.{literals_at}
-use Rattle.verdict.specs.Verdicts.{Finding, RunOff, unless, forbids, ends, runs_off, findings_at}
+use Rattle.verdict.specs.Verdicts.{unless, forbids, ends, runs_off, findings_at}
+use Rattle.verdict.specs.declared.Finding.{Finding}
+use Rattle.verdict.specs.declared.Finding.TheVariants.{RunOff}
 use Rattle.verdict.specs.Working.{ends_of, Judging}
 use Rattle.verdict.proofs.Combinations.{contradicted-is}
 use Rattle.verdict.proofs.Ends.{rising-within, Asked, asked_is}
-use Rattle.verdict.proofs.Judging.{combinations-all, from_j, node_at}
+use Rattle.verdict.proofs.Judging.{from_j, all_combinations, node_at}
+use Rattle.verdict.specs.declared.cases.Case.{Case}
 use Rattle.sheet.specs.Laying.{Laid, free, missed, offs}
 use Rattle.sheet.proofs.Laying.{laid_both}
 
@@ -112,8 +115,7 @@ module _ (shows : Goal → ℕ → Bool) (m k j vars : ℕ) (few : vars ≤ 8) w
       not_set v (s ∷ ss) _ (absent v (s ∷ ss) r') (h v (omega arith) (omega arith)) ∙ missed-from n (suc v) (s ∷ ss) (omega arith) r' (λ u l. h u (omega arith))) (eq_or_ne s.variable v)
 
 -- ---- at a node of a graph that is judged
-module _ {p : Program} {ls : List Lemma} {g : Graph} {es : List Entry} {literals : List Literals} {forbidden : ℕ} {asked kept : List ℕ} {actions : ℕ} {l : List ℕ}
-    (J : Judging p ls g es literals forbidden asked kept actions l) where
+module _ {p : Program} {ls : List Lemma} {g : Graph} {c : Case} (J : Judging p ls g c) where
   module _ (set k j : ℕ) where
     abbrev sets_of : List Assignment
     sets_of = (action_of p j).sets
@@ -122,7 +124,7 @@ module _ {p : Program} {ls : List Lemma} {g : Graph} {es : List Entry} {literals
     shows = applies p ls j (literals_in 14 set)
 
     abbrev shown : ℕ
-    shown = known (get_or kept j 0) j set es
+    shown = known (get_or c.kept.now j 0) j set c.entries.now
 
     -- of the two places of each variable, those are asked for that are set
     asks : (u : ℕ) → u < 8 → (q : ℕ) → (q ≡ place_of 3 u) ⊎ (q ≡ place_of 4 u) → has q (ends_of (action_of p j)) ≡ sets_variable sets_of u
@@ -146,32 +148,30 @@ module _ {p : Program} {ls : List Lemma} {g : Graph} {es : List Entry} {literals
           has-missing (place_of 4 u) (ends_of (action_of p j)) shown ∙ rw (asks u h (place_of 4 u) (inr refl), J.applying j set NotAbove u (high_end h) (omega arith)) refl,
         ))
 
-  module _ (k : ℕ) (shown : List ℕ) (T : Table kept (payload (node_word g k)) es shown) where
-    offs-from : (xs : List Action) (j : ℕ) → drop j p.actions ≡ xs → offs asked shown k j (length xs) ≡ runs_off p ls (literals_at g k) k j xs
+  module _ (k : ℕ) (shown : List ℕ) (T : Table c.kept.now (payload (node_word g k)) c.entries.now shown) where
+    offs-from : (xs : List Action) (j : ℕ) → drop j p.actions ≡ xs → offs c.asked shown k j (length xs) ≡ runs_off p ls (literals_at g k) k j xs
     unfolding offs runs_off
     offs-from [] j e = refl
     offs-from (x ∷ xs) j e =
         let (lt, is, rest) = from_j p.actions j x xs e in
         let few = J.good.actions.few in
         let set = payload (node_word g k) in
-        let asks : get_or asked j 0 ≡ ends_of x = ap (λ (y : List ℕ). get_or y j 0) J.ends ∙ table_at ends_of p few j lt ∙ ap ends_of is in
-        let here : missed (missing (ends_of x) (known (get_or kept j 0) j set es)) k j 28 16 ≡ ends (applies p ls j (literals_at g k)) k j x.sets =
-        subst (λ (y : Action). missed (missing (ends_of y) (known (get_or kept j 0) j set es)) k j 28 16 ≡ ends (applies p ls j (literals_at g k)) k j y.sets) is (missed-is set k j) in
+        let asks : get_or c.asked j 0 ≡ ends_of x = ap (λ (y : List ℕ). get_or y j 0) J.ends ∙ table_at ends_of p few j lt ∙ ap ends_of is in
+        let here : missed (missing (ends_of x) (known (get_or c.kept.now j 0) j set c.entries.now)) k j 28 16 ≡ ends (applies p ls j (literals_at g k)) k j x.sets =
+        subst (λ (y : Action). missed (missing (ends_of y) (known (get_or c.kept.now j 0) j set c.entries.now)) k j 28 16 ≡ ends (applies p ls j (literals_at g k)) k j y.sets) is (missed-is set k j) in
         rw (asks, T.same j (omega arith), J.leading j set, here, offs-from xs (suc j) rest) refl
 
-    offs-are : offs asked shown k 0 actions ≡ runs_off p ls (literals_at g k) k 0 p.actions
+    offs-are : offs c.asked shown k 0 c.image.now.actions ≡ runs_off p ls (literals_at g k) k 0 p.actions
     offs-are = rw J.action-count (offs-from p.actions 0 refl)
 
-  free_all : (k : ℕ) → free (payload (node_word g k)) k 0 (take forbidden literals) ≡ forbids k (literals_at g k) 0 p.forbidden
-  free_all k =
-      let all : take forbidden literals ≡ p.forbidden =
-      ap (λ (n : ℕ). take n literals) J.forbidden-count ∙ ap (take (length p.forbidden)) J.combinations ∙ combinations-all p.forbidden J.good.forbidden.few in
-      rw all (free-is (length p.predicates) (payload (node_word g k)) k 0 p.forbidden (omega arith) J.good.forbidden.each)
+  free_all : (k : ℕ) → free (payload (node_word g k)) k 0 (take c.image.now.forbidden c.image.now.literals) ≡ forbids k (literals_at g k) 0 p.forbidden
+  free_all k = rw (all_combinations J) (free-is (length p.predicates) (payload (node_word g k)) k 0 p.forbidden (omega arith) J.good.forbidden.each)
 
-  -- w is the word of node k
-  pub found_at : (k : ℕ) → k < count g → {w : ℕ} → w ≡ get_or l (record_place actions k) 0 → {shown : List ℕ} → Table kept (payload w) es shown
-      → {o o' o'' : List ℕ} {i i' i'' : ℕ} → Laid (free (payload w) k 0 (take forbidden literals)) o i o' i' → Laid (offs asked shown k 0 actions) o' i' o'' i''
+  -- of node k with this set
+  pub found_at : (k : ℕ) → k < c.nodes → {set : ℕ} → set ≡ payload (get_or c.records.list.now (record_place c.records.actions k) 0)
+      → {shown : List ℕ} → Table c.kept.now set c.entries.now shown → {o o' o'' : List ℕ} {i i' i'' : ℕ}
+      → Laid (free set k 0 (take c.image.now.forbidden c.image.now.literals)) o i o' i' → Laid (offs c.asked shown k 0 c.image.now.actions) o' i' o'' i''
       → Laid (findings_at p ls g k) o i o'' i''
-  found_at k h iw {shown} T d e =
-      let same = ap payload (iw ∙ node_at J k h) in
+  found_at k h is {shown} T d e =
+      let same = is ∙ ap payload (node_at J k h) in
       laid_both (forbids k (literals_at g k) 0 p.forbidden) (runs_off p ls (literals_at g k) k 0 p.actions) (rw (same, free_all k) at d) (rw (offs-are k shown (rw same at T)) at e)

@@ -1,21 +1,17 @@
 -- Findings laid one after the other in a list:
 --     Left                             what is left to be laid gives, from here, what all give from the beginning
---     low_bit                          the last bit of a place as a number
 --     all_left, none_left              at the beginning, and at the end
 --     passed, put_one, laid_on         one that is not found, one that is put, several that a call has laid
 --     laid_both                        what two calls have laid
 --     free-at .. findings-end          what is left at a turn of each loop, and at its end
 use mathlib.Core.Path.{◌≡◌, refl, sym, ap, ◌∙◌}
 use mathlib.Core.Bool.{Bool, true, false, cond, not}
-use mathlib.Core.Logic.{⊎_elim}
 use mathlib.Core.List.{List, [], ◌∷◌, ◌++◌, map, append-nil, map-append}
-use Prim.Native.Nat.{ℕ, suc, ◌+◌, ◌-◌, ◌%◌, ◌<◌, ◌≤◌}
+use Prim.Native.Nat.{ℕ, suc, ◌+◌, ◌-◌, ◌<◌, ◌≤◌}
 use native.Mathlib.Omega.{arith}
 use native.Mathlib.Numerals.{add-one}
-use lib.Dec.{eqb}
 use lib.ListN.{length, get_or, drop, drop_of_length-le, length-append, length-map, set}
-use lib.Seq.{sets, length-sets, drop-cons}
-use borrow.Author.Tests.{eq-eqb, ne_eqb}
+use lib.Seq.{sets, drop-cons}
 use Rattle.words.specs.Words.{no_literals}
 use Rattle.words.specs.LiteralSets.{has}
 use Rattle.words.specs.declared.Literals.{Literals}
@@ -24,20 +20,16 @@ use Rattle.lemmas.specs.Lemmas.{Lemma}
 use Rattle.sets.specs.Sets.{clashes}
 use Rattle.gather.specs.Gathering.{successor_of, missing}
 use Rattle.search.specs.Search.{Graph}
-use Rattle.search.proofs.Count.{eq_or_ne}
-use Rattle.verdict.specs.Verdicts.{Finding, Forbid, RunOff, unless, findings_at, findings_from}
-use Rattle.verdict.specs.Working.{given, found_of}
-use Rattle.verdict.specs.declared.Found.TheVariants.{Nothing}
+use Rattle.verdict.specs.Verdicts.{unless, findings_at, findings_from}
+use Rattle.verdict.specs.declared.Finding.{Finding}
+use Rattle.verdict.specs.declared.Finding.TheVariants.{Forbid}
+use Rattle.std.specs.Option.{is_some}
 use Rattle.sheet.specs.Sheets.{finding_word}
 use Rattle.sheet.specs.Laying.{Laid, end_at, free, missed, offs}
 
 sets_append : (l : List ℕ) (i : ℕ) (xs ys : List ℕ) → sets l i (xs ++ ys) ≡ sets (sets l i xs) (i + length xs) ys
 sets_append l i [] ys = let e : i + 0 ≡ i = omega arith in rw e refl
 sets_append l i (x ∷ xs) ys = let e : i + suc (length xs) ≡ suc i + length xs = omega arith in rw e (sets_append (set l i x) (suc i) xs ys)
-
--- the last bit of a place as a number
-pub low_bit : (n : ℕ) → cond (eqb (n % 2) 1) 1 0 ≡ n % 2
-low_bit n = ⊎_elim (λ e. rw (eq-eqb (n % 2) 1 e) (sym e)) (λ e. rw (ne_eqb (n % 2) 1 e) (omega arith)) (eq_or_ne (n % 2) 1)
 
 -- of the findings fs from place i₀ of l₀ on, `rest` is left to be laid from place i of l on
 pub record Left (fs : List Finding) (l₀ : List ℕ) (i₀ : ℕ) (l : List ℕ) (i : ℕ) (rest : List Finding) : Type 0 where
@@ -50,10 +42,6 @@ all_left fs l i = record { places = refl; words = refl }
 module _ {fs : List Finding} {l₀ : List ℕ} {i₀ : ℕ} {l : List ℕ} {i : ℕ} where
   pub none_left : Left fs l₀ i₀ l i [] → Laid fs l₀ i₀ l i
   none_left h = record { places = omega (arith, h.places); words = h.words }
-
-  -- nothing is written past the list
-  pub left-length : (rest : List Finding) → Left fs l₀ i₀ l i rest → length l ≡ length l₀
-  left-length rest h = sym (length-sets l i (map finding_word rest)) ∙ ap length h.words ∙ length-sets l₀ i₀ (map finding_word fs)
 
   module _ (t : Bool) (f : Finding) (rest : List Finding) (h : Left fs l₀ i₀ l i (unless t f ++ rest)) where
     pub passed : t ≡ true → Left fs l₀ i₀ l i rest
@@ -96,7 +84,7 @@ module _ (m k j q : ℕ) where
   missed-end h = let e : 44 - q ≡ 0 = omega arith in rw e refl
 
 module _ (asked shown : List ℕ) (k n j : ℕ) where
-  pub offs-at : j < n → offs asked shown k j (n - j) ≡ cond (given (successor_of (get_or shown j 0))) (missed (missing (get_or asked j 0) (get_or shown j 0)) k j 28 16) [] ++ offs asked shown k (j + 1) (n - (j + 1))
+  pub offs-at : j < n → offs asked shown k j (n - j) ≡ cond (is_some (successor_of (get_or shown j 0))) (missed (missing (get_or asked j 0) (get_or shown j 0)) k j 28 16) [] ++ offs asked shown k (j + 1) (n - (j + 1))
   unfolding offs
   offs-at h = let e : n - j ≡ suc (n - (j + 1)) = omega arith in rw (e, add-one j) refl
 
@@ -112,12 +100,3 @@ module _ (p : Program) (ls : List Lemma) (g : Graph) (nodes k : ℕ) where
   pub findings-end : nodes ≤ k → findings_from p ls g k (nodes - k) ≡ []
   unfolding findings_from
   findings-end h = let e : nodes - k ≡ 0 = omega arith in rw e refl
-
--- ---- a node with nothing to find
-pub none_found : (fs : List Finding) → Nothing ≡ found_of fs → fs ≡ []
-none_found [] e = refl
-none_found (Forbid k b ∷ fs) e = let z : ◌≡◌ {A = ℕ} 0 1 = cc in absurd (omega arith)
-none_found (RunOff k j v high ∷ fs) e = let z : ◌≡◌ {A = ℕ} 0 1 = cc in absurd (omega arith)
-
-pub laid_nothing : (fs : List Finding) (l : List ℕ) (i : ℕ) → fs ≡ [] → Laid fs l i l i
-laid_nothing fs l i e = rw e (record { places = omega arith; words = refl })

@@ -15,7 +15,9 @@ use Rattle.lemmas.proofs.LemmaLaws.{action-rising}
 use Rattle.search.specs.Search.{Graph, count}
 use Rattle.abstraction.specs.Abstraction.{applies, successor}
 use Rattle.abstraction.specs.Faithful.{literals_at}
-use Rattle.verdict.specs.Verdicts.{Finding, Forbid, RunOff, contradicted, unless, ends, has_next, findings}
+use Rattle.verdict.specs.Verdicts.{contradicted, unless, ends, has_next, findings}
+use Rattle.verdict.specs.declared.Finding.{Finding}
+use Rattle.verdict.specs.declared.Finding.TheVariants.{Forbid, RunOff}
 use Rattle.sheet.specs.Sheets.{finding_word, Rises}
 use Rattle.sheet.proofs.Pieces.{pieces, combinationsAt, actions_at, findings-pieces}
 

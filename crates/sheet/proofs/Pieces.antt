@@ -19,7 +19,9 @@ use Rattle.lemmas.specs.Lemmas.{Lemma}
 use Rattle.search.specs.Search.{Graph, count}
 use Rattle.abstraction.specs.Abstraction.{applies, successor}
 use Rattle.abstraction.specs.Faithful.{literals_at}
-use Rattle.verdict.specs.Verdicts.{Finding, Forbid, contradicted, unless, forbids, ends, has_next, runs_off, findings_from, findings}
+use Rattle.verdict.specs.Verdicts.{contradicted, unless, forbids, ends, has_next, runs_off, findings_from, findings}
+use Rattle.verdict.specs.declared.Finding.{Finding}
+use Rattle.verdict.specs.declared.Finding.TheVariants.{Forbid}
 
 -- ---- lists in pieces
 module _ {A : Type 0} where

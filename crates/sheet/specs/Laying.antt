@@ -5,14 +5,16 @@
 -- free   — the combinations, the first being number b, that no literal of a set contradicts
 -- missed — the ends of action j that are missing, of the n places from q on
 -- offs   — those of n actions from j on, of the ones that have a successor
+use Rattle.std.specs.Option.{is_some}
 use Rattle.std.specs.Prelude.{◌≡◌, cond, not, List, [], ◌∷◌, ◌++◌, map, ℕ, zero, suc, ◌+◌, ◌/◌, ◌%◌, eqb, length, get_or}
 use Rattle.std.proofs.lemmas.List.Edits.{sets}
 use Rattle.words.specs.LiteralSets.{has}
 use Rattle.words.specs.declared.Literals.{Literals}
 use Rattle.sets.specs.Sets.{clashes}
 use Rattle.gather.specs.Gathering.{successor_of, missing}
-use Rattle.verdict.specs.Verdicts.{Finding, Forbid, RunOff, unless}
-use Rattle.verdict.specs.Working.{given}
+use Rattle.verdict.specs.Verdicts.{unless}
+use Rattle.verdict.specs.declared.Finding.{Finding}
+use Rattle.verdict.specs.declared.Finding.TheVariants.{Forbid, RunOff}
 use Rattle.sheet.specs.Sheets.{finding_word}
 
 -- the list was l and is l'
@@ -34,4 +36,4 @@ missed m k j q (suc n) = unless (not (has q m)) (end_at k j q) ++ missed m k j (
 unfoldable pub offs : List ℕ → List ℕ → ℕ → ℕ → ℕ → List Finding
 offs asked shown k j zero = []
 offs asked shown k j (suc n) =
-    cond (given (successor_of (get_or shown j 0))) (missed (missing (get_or asked j 0) (get_or shown j 0)) k j 28 16) [] ++ offs asked shown k (suc j) n
+    cond (is_some (successor_of (get_or shown j 0))) (missed (missing (get_or asked j 0) (get_or shown j 0)) k j 28 16) [] ++ offs asked shown k (suc j) n

@@ -21,7 +21,9 @@ use Rattle.lemmas.specs.LemmaGrammar.{sets_variable}
 use Rattle.search.specs.Search.{Graph, count}
 use Rattle.abstraction.specs.Abstraction.{applies, successor}
 use Rattle.abstraction.specs.Faithful.{literals_at}
-use Rattle.verdict.specs.Verdicts.{Finding, Forbid, RunOff, contradicted, has_next}
+use Rattle.verdict.specs.Verdicts.{contradicted, has_next}
+use Rattle.verdict.specs.declared.Finding.{Finding}
+use Rattle.verdict.specs.declared.Finding.TheVariants.{Forbid, RunOff}
 
 -- node in bits 27..19, bit 18 set for a run-off, action in 17..14, combination or variable in 13..11, bit 0 set for a high end
 abbrev pub finding_word : Finding → ℕ

@@ -1,25 +1,25 @@
 // The findings of a graph as words of kind 14, laid one after the other in a list, as many as it has room for.
 #![tactic(auto)]
 
-ghost use Rattle.std.specs.Prelude.{◌≡◌, List, ◌+◌, ◌*◌, ◌/◌, ◌%◌, ◌^◌, ◌<◌, ◌≤◌, length, take, set};
+ghost use Rattle.std.specs.Prelude.{◌≡◌, None, List, ◌+◌, ◌*◌, ◌/◌, ◌%◌, ◌^◌, ◌<◌, ◌≤◌, length, set};
 ghost use Rattle.words.specs.Limits.{most_forbidden, most_actions};
 ghost use Rattle.words.specs.LiteralSets.{has};
 ghost use Rattle.grammar.specs.Programs.{Program};
 ghost use Rattle.lemmas.specs.Lemmas.{Lemma};
-ghost use Rattle.gather.specs.Gathering.{entries};
-ghost use Rattle.search.specs.Search.{Graph, count};
-ghost use Rattle.records.specs.Records.{most_nodes, graph_words};
+ghost use Rattle.search.specs.Search.{Graph};
+ghost use Rattle.records.specs.Records.{most_nodes};
 ghost use Rattle.block.specs.Blocks.{table_words};
-ghost use Rattle.verdict.specs.Verdicts.{Forbid, findings_at, findings};
+ghost use Rattle.verdict.specs.Verdicts.{findings_at, findings};
+ghost use Rattle.verdict.specs.declared.Finding.TheVariants.{Forbid};
 ghost use Rattle.verdict.specs.Working.{Judging, found_of};
-ghost use Rattle.verdict.specs.declared.Found.TheVariants.{Nothing};
 ghost use Rattle.sets.specs.Sets.{Member};
 ghost use Rattle.sheet.specs.Sheets.{finding_word};
 ghost use Rattle.sheet.specs.Laying.{Laid, end_at, free, missed, offs};
 
+use verdict::Case;
 use words::{Kind, Literals};
 
-// A word at place i of a list, if it has that place.
+// A word at place i of a list, if it has that place. Written by index: after a `get_mut` the proof would know the list's length only.
 fn put(list: &mut [u32], i: usize, w: u32)
     ensures { list.new ≡ set list.old i w }
 {
@@ -53,27 +53,17 @@ fn has_place(w: u64, place: u32) -> bool
     (w >> place) % 2 == 1
 }
 
-// The first n combinations that no literal of the set contradicts, from place i of the list on. The place behind them.
-fn lay_free(
-    literals: [Literals; 8],
-    n: usize,
-    set: u32,
-    k: usize,
-    list: &mut [u32],
-    i: usize,
-) -> usize
-    requires { (n ≤ most_forbidden) × (set < 2 ^ 28) × (k < most_nodes) × (i < 2 ^ 32) }
-    ensures { (result ≤ i + most_forbidden) × Laid (free set k 0 (take n literals)) list.old i list.new result }
+// The combinations that no literal of the set contradicts, from place i of the list on. The place behind them.
+fn lay_free(combinations: &[Literals], set: u32, k: usize, list: &mut [u32], i: usize) -> usize
+    requires { (length combinations.now ≤ most_forbidden) × (set < 2 ^ 28) × (k < most_nodes) × (i < 2 ^ 32) }
+    ensures { (result ≤ i + most_forbidden) × Laid (free set k 0 combinations.now) list.old i list.new result }
 {
     let mut at = i;
-    let mut b: usize = 0;
-    while b < n {
-        let c = literals[b];
+    for (b, c) in combinations.iter().enumerate() {
         if !sets::is_opposed(c.0, set) {
-            put(&mut *list, at, forbid_word(k, b));
+            put(list, at, forbid_word(k, b));
             at += 1;
         }
-        b += 1;
     }
     at
 }
@@ -84,13 +74,11 @@ fn lay_missed(missing: u64, k: usize, j: usize, list: &mut [u32], i: usize) -> u
     ensures { (result ≤ i + 16) × Laid (missed missing k j 28 16) list.old i list.new result }
 {
     let mut at = i;
-    let mut place: u32 = 28;
-    while place < 44 {
+    for place in 28..44 {
         if has_place(missing, place) {
-            put(&mut *list, at, run_off_word(k, j, place));
+            put(list, at, run_off_word(k, j, place));
             at += 1;
         }
-        place += 1;
     }
     at
 }
@@ -108,124 +96,54 @@ fn lay_off(
     ensures { (result ≤ i + actions * 16) × Laid (offs asked shown k 0 actions) list.old i list.new result }
 {
     let mut at = i;
-    let mut j: usize = 0;
-    while j < actions {
+    for j in 0..actions {
         let seen = shown[j];
-        if verdict::has_successor(seen) {
-            at = lay_missed(gather::missing(asked[j], seen), k, j, &mut *list, at);
+        if gather::successor_of(seen).is_some() {
+            at = lay_missed(gather::missing(asked[j], seen), k, j, list, at);
         }
-        j += 1;
     }
     at
 }
 
 // All that is found at node k: the forbidden combinations, then the ends of ranges.
-fn lay_at(
-    premises: &[u32],
-    keys: &[u32],
-    n: usize,
-    literals: [Literals; 8],
-    forbidden: usize,
-    asked: [u64; 16],
-    kept: &[u32],
-    actions: usize,
-    graph: &[u32],
-    k: usize,
-    list: &mut [u32],
-    i: usize,
-) -> usize
-    requires { (n ≤ length premises.now) × (n ≤ length keys.now) × (16 ≤ length kept.now) × (forbidden ≤ most_forbidden)
-        × (actions ≤ most_actions) × (graph_words ≤ length graph.now) × (k < most_nodes) × (i ≤ k * 264) }
-    ensures { (result ≤ (k + 1) * 264)
-        × ((p : Program) (ls : List Lemma) (g : Graph)
-        → Judging p ls g (entries premises.now keys.now n) literals forbidden asked kept.now actions
-        graph.now → k < count g → Laid (findings_at p ls g k) list.old i list.new result) }
+fn lay_at(case: &Case<'_>, k: usize, list: &mut [u32], i: usize) -> usize
+    requires { (k < case.now.nodes) × (i ≤ k * 264) }
+    ensures few { result ≤ (k + 1) * 264 }
+    ensures laid { (p : Program) (ls : List Lemma) (g : Graph) → Judging p ls g case.now → Laid (findings_at p ls g k) list.old i list.new result }
 {
-    let set = records::word_at(graph, actions, k) % 268435456;
-    let at = lay_free(literals, forbidden, set, k, &mut *list, i);
-    let known = gather::gather_all(premises, keys, n, set, kept);
-    lay_off(asked, known, actions, k, &mut *list, at)
+    let set = case.set_at(k);
+    let at = lay_free(case.combinations(), set, k, list, i);
+    let known = gather::gather_all(case.entries, set, case.kept);
+    lay_off(case.asked, known, case.image.actions, k, list, at)
 }
 
 // The same at node k. Where its bit is in `passed` there is nothing.
-fn lay_in(
-    premises: &[u32],
-    keys: &[u32],
-    n: usize,
-    literals: [Literals; 8],
-    forbidden: usize,
-    asked: [u64; 16],
-    kept: &[u32],
-    actions: usize,
-    graph: &[u32],
-    k: usize,
-    passed: u64,
-    list: &mut [u32],
-    i: usize,
-) -> usize
-    requires { (n ≤ length premises.now) × (n ≤ length keys.now) × (16 ≤ length kept.now) × (forbidden ≤ most_forbidden)
-        × (actions ≤ most_actions) × (graph_words ≤ length graph.now) × (k < most_nodes) × (i ≤ k * 264) }
-    ensures { (result ≤ (k + 1) * 264)
-        × ((p : Program) (ls : List Lemma) (g : Graph)
-        → Judging p ls g (entries premises.now keys.now n) literals forbidden asked kept.now actions
-        graph.now → k < count g → (Member (k % 64) passed → Nothing ≡ found_of (findings_at p ls g k))
-        → Laid (findings_at p ls g k) list.old i list.new result) }
+fn lay_in(case: &Case<'_>, k: usize, passed: u64, list: &mut [u32], i: usize) -> usize
+    requires { (k < case.now.nodes) × (i ≤ k * 264) }
+    ensures few { result ≤ (k + 1) * 264 }
+    ensures laid { (p : Program) (ls : List Lemma) (g : Graph) → Judging p ls g case.now
+        → (Member (k % 64) passed → None ≡ found_of (findings_at p ls g k)) → Laid (findings_at p ls g k) list.old i list.new result }
 {
     if (passed >> (k % 64)) % 2 == 1 {
-        return i;
+        i
+    } else {
+        lay_at(case, k, list, i)
     }
-    lay_at(
-        premises, keys, n, literals, forbidden, asked, kept, actions, graph, k, &mut *list, i,
-    )
 }
 
-// All findings of a graph, of a program's forbidden combinations and the ends that its actions have to keep to; `kept` has the masks of what each
-// action keeps, and `scratch` is worked in. How many there are, whether or not the list has room for all.
-pub fn lay(
-    premises: &[u32],
-    keys: &[u32],
-    n: usize,
-    literals: [Literals; 8],
-    forbidden: usize,
-    asked: [u64; 16],
-    kept: &[u32],
-    actions: usize,
-    graph: &[u32],
-    nodes: usize,
-    list: &mut [u32],
-    scratch: &mut [u64],
-) -> usize
-    requires { (n ≤ length premises.now) × (n ≤ length keys.now) × (16 ≤ length kept.now) × (forbidden ≤ most_forbidden)
-        × (actions ≤ most_actions) × (graph_words ≤ length graph.now) × (nodes ≤ most_nodes) × (table_words ≤ length scratch.old) }
-    ensures { (p : Program) (ls : List Lemma) (g : Graph)
-        → Judging p ls g (entries premises.now keys.now n) literals forbidden asked kept.now actions
-        graph.now → nodes ≡ count g → Laid (findings p ls g) list.old 0 list.new result }
+// All findings of the graph, as many as the list has room for; `scratch` is worked in. How many there are, whether or not the list has room for all.
+// The walk is `verdict::first_finding`'s, which stops where this one goes on: one for both would take a closure that carries the list and its place.
+pub fn lay(case: &Case<'_>, list: &mut [u32], scratch: &mut [u64]) -> usize
+    requires { table_words ≤ length scratch.old }
+    ensures { (p : Program) (ls : List Lemma) (g : Graph) → Judging p ls g case.now → Laid (findings p ls g) list.old 0 list.new result }
 {
-    let mut passed: u64 = 0;
-    let mut at: usize = 0;
-    let mut k: usize = 0;
-    while k < nodes {
+    let mut passed = 0;
+    let mut at = 0;
+    for k in 0..case.nodes {
         if k % 64 == 0 {
-            passed = verdict::clean(
-                premises,
-                keys,
-                n,
-                literals,
-                forbidden,
-                asked,
-                kept,
-                actions,
-                graph,
-                nodes,
-                k,
-                &mut *scratch,
-            );
+            passed = verdict::clean(case, k, scratch);
         }
-        at = lay_in(
-            premises, keys, n, literals, forbidden, asked, kept, actions, graph, k, passed,
-            &mut *list, at,
-        );
-        k += 1;
+        at = lay_in(case, k, passed, list, at);
     }
     at
 }

@@ -1,20 +1,19 @@
 // A show surveyed: read, its lemmas weighed, its graph explored. Whatever judges a show begins with this.
 #![tactic(auto)]
 
-ghost use Rattle.std.specs.Prelude.{◌≡◌, ◌≤◌, length};
-ghost use Rattle.programs.specs.declared.Status.TheVariants.{Failed};
+ghost use Rattle.std.specs.Prelude.{◌≤◌, length};
 ghost use Rattle.records.specs.Records.{graph_words};
 ghost use Rattle.ready.specs.Ready.{scratch_words};
 ghost use Rattle.survey.specs.Ready.{SurveyOf};
 
-use programs::{Image, Status};
-use records::Explored;
+use gather::Entry;
+use lemmas::Loaded;
+use programs::Image;
 use words::Refusal;
 
-// What reading, weighing and exploring come to before anything is judged. Where the status is ready, the graph list holds a graph of these counts.
+// What reading, weighing and exploring come to before anything is judged: the graph list holds a graph of these counts.
 #[derive(Clone, Copy)]
 pub struct Surveyed {
-    pub status: Status,
     pub image: Image,
     // How many lemmas are accepted.
     pub count: usize,
@@ -24,79 +23,38 @@ pub struct Surveyed {
     pub edges: usize,
 }
 
-fn stopped(image: Image, why: Refusal) -> Surveyed
-    ensures { result.status ≡ Failed why }
-{
-    Surveyed {
-        status: Status::Failed(why),
-        image,
-        count: 0,
-        kept: [0u32; 16],
-        nodes: 0,
-        edges: 0,
-    }
-}
-
 // A show read, its lemmas weighed and its graph explored, into the first 9,728 words of a list that is long enough; or the refusal that is due.
-// The premises and keys of the accepted lemmas are put into two lists, and `scratch` is worked in.
+// The entries of the accepted lemmas are put into a list, and `scratch` is worked in.
 pub fn survey(
     words: &[u32],
     lemmas: &[u32],
     graph: &mut [u32],
-    premises: &mut [u32],
-    keys: &mut [u32],
+    entries: &mut [Entry],
     scratch: &mut [u64],
-) -> Surveyed
-    requires { (graph_words ≤ length graph.old) × (512 ≤ length premises.old) × (512 ≤ length keys.old) × (scratch_words ≤ length scratch.old) }
-    ensures { SurveyOf words.now lemmas.now graph.old graph.new premises.new
-        keys.new result }
+) -> Result<Surveyed, Refusal>
+    requires { (graph_words ≤ length graph.old) × (512 ≤ length entries.old) × (scratch_words ≤ length scratch.old) }
+    ensures { SurveyOf words.now lemmas.now graph.old graph.new entries.new result }
 {
-    let loaded = programs::load(words);
-    let image = loaded.image;
-    let status = loaded.status;
-    if let Status::Failed(why) = status {
-        return stopped(image, why);
-    }
-    let list = lemmas::list(words, image, lemmas, &mut *scratch);
-    let status = list.status;
-    if let Status::Failed(why) = status {
-        return stopped(image, why);
-    }
-    let count = list.count;
-    let tables = tables::tabulate(
+    let image = programs::load(words)?;
+    let loaded = Loaded {
         words,
-        image,
-        lemmas,
-        &scratch[..],
-        count,
-        &mut *premises,
-        &mut *keys,
-    );
-    let off = tables.off;
-    if off < count {
-        return stopped(image, Refusal::Sum(off));
-    }
-    let n = tables.count;
+        image: &image,
+    };
+    let listed = lemmas::list(&loaded, lemmas, scratch)?;
+    let count = tables::tabulate(&loaded, lemmas, &scratch[..listed], entries)?;
     let kept = frame::masks(image);
-    let actions = image.actions;
-    let explored = graph::explore(
-        &premises[..],
-        &keys[..],
-        n,
-        &kept[..],
-        actions,
-        &mut *graph,
-        &mut *scratch,
-    );
-    match explored {
-        Explored::Full => stopped(image, Refusal::Nodes),
-        Explored::Whole(nodes, edges) => Surveyed {
-            status: Status::Ready,
-            image,
-            count: n,
-            kept,
-            nodes,
-            edges,
-        },
-    }
+    let (nodes, edges) = graph::explore(
+        &entries[..count],
+        &kept,
+        image.actions,
+        graph,
+        scratch,
+    ).ok_or(Refusal::Nodes)?;
+    Ok(Surveyed {
+        image,
+        count,
+        kept,
+        nodes,
+        edges,
+    })
 }

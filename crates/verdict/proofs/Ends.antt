@@ -2,6 +2,8 @@
 --     off-skip, off-kept, off-here, off-end   the loop over a node's actions
 --     ends_found                              the first end of an action that is missing is the first finding of its ends
 use mathlib.Core.Path.{◌≡◌, refl, sym, ◌∙◌, subst}
+use Rattle.std.specs.Option.{is_some}
+use Rattle.std.specs.Prelude.{None, Some}
 use mathlib.Core.Bool.{Bool, true, false, cond}
 use mathlib.Core.Logic.{◌⊎◌, inl, inr, ⊎_elim, ◌↔◌}
 use mathlib.Core.List.{List, [], ◌∷◌, ◌++◌}
@@ -22,36 +24,37 @@ use Rattle.lemmas.proofs.LemmaLaws.{action-rising}
 use Rattle.lemmas.proofs.HeadLaws.{marks-of}
 use Rattle.sets.specs.Sets.{Member}
 use Rattle.sets.proofs.Laws.{pairs-are}
-use Rattle.gather.specs.Gathering.{Placed, low_end, high_end, Entry, place_of, known, successor_of, first_missing}
+use Rattle.gather.specs.Gathering.{Placed, low_end, high_end, place_of, known, successor_of, first_missing}
 use Rattle.gather.proofs.Shown.{never, missing-is}
 use Rattle.search.proofs.Count.{lt_or_le, eq_or_ne}
 use Rattle.words.specs.LiteralSets.{literals_in, has}
 use Rattle.abstraction.specs.Abstraction.{applies}
-use Rattle.verdict.specs.Verdicts.{Finding, ends}
-use Rattle.verdict.specs.declared.Found.TheVariants.{Nothing}
-use Rattle.verdict.specs.declared.Found.TheVariants.{RunOff as MayRunOff}
-use Rattle.verdict.specs.Working.{ends_to, ends_of, found_of, end_at, given, first_unshown}
-use Rattle.verdict.proofs.Combinations.{or_right}
+use Rattle.gather.specs.declared.Entry.{Entry}
+use Rattle.verdict.specs.Verdicts.{ends}
+use Rattle.verdict.specs.declared.Finding.{Finding}
+use Rattle.verdict.specs.declared.Finding.TheVariants.{RunOff}
+use Rattle.verdict.specs.Working.{ends_to, ends_of, found_of, end_at, first_unshown}
+use Rattle.std.proofs.lemmas.Bool.{or_right}
 
 -- ---- the loop over the actions
 module _ (asked shown : List ℕ) (k n j : ℕ) (same : first_unshown asked shown k j (n - j) ≡ first_unshown asked shown k 0 n) where
   module _ (h : j < n) where
     off_at : first_unshown asked shown k j (n - j)
-        ≡ cond (given (successor_of (get_or shown j 0))) (end_at k j (first_missing (get_or asked j 0) (get_or shown j 0)) (first_unshown asked shown k (j + 1) (n - (j + 1)))) (first_unshown asked shown k (j + 1) (n - (j + 1)))
+        ≡ cond (is_some (successor_of (get_or shown j 0))) (end_at k j (first_missing (get_or asked j 0) (get_or shown j 0)) (first_unshown asked shown k (j + 1) (n - (j + 1)))) (first_unshown asked shown k (j + 1) (n - (j + 1)))
     unfolding first_unshown
     off_at = let e : n - j ≡ suc (n - (j + 1)) = omega arith in rw (e, add-one j) refl
 
-    pub off-skip : given (successor_of (get_or shown j 0)) ≡ false → first_unshown asked shown k (j + 1) (n - (j + 1)) ≡ first_unshown asked shown k 0 n
+    pub off-skip : is_some (successor_of (get_or shown j 0)) ≡ false → first_unshown asked shown k (j + 1) (n - (j + 1)) ≡ first_unshown asked shown k 0 n
     off-skip b = sym (off_at ∙ rw b refl) ∙ same
 
-    module _ (b : given (successor_of (get_or shown j 0)) ≡ true) (m : ℕ) (is : m ≡ first_missing (get_or asked j 0) (get_or shown j 0)) where
+    module _ (b : is_some (successor_of (get_or shown j 0)) ≡ true) (m : ℕ) (is : m ≡ first_missing (get_or asked j 0) (get_or shown j 0)) where
       pub off-kept : 64 ≤ m → first_unshown asked shown k (j + 1) (n - (j + 1)) ≡ first_unshown asked shown k 0 n
       off-kept l = sym (off_at ∙ rw (b, ← is, le-ltb m 64 l) refl) ∙ same
 
-      pub off-here : m < 64 → MayRunOff k j (m / 2 % 14) (eqb (m % 2) 1) ≡ first_unshown asked shown k 0 n
+      pub off-here : m < 64 → Some (RunOff k j (m / 2 % 14) (eqb (m % 2) 1)) ≡ first_unshown asked shown k 0 n
       off-here l = sym (off_at ∙ rw (b, ← is, lt-ltb m 64 l) refl) ∙ same
 
-  pub off-end : n ≤ j → Nothing ≡ first_unshown asked shown k 0 n
+  pub off-end : n ≤ j → None ≡ first_unshown asked shown k 0 n
   unfolding first_unshown
   off-end h = let e : n - j ≡ 0 = omega arith in rw e at same
 

@@ -17,10 +17,11 @@ use Rattle.search.specs.Paths.{hop, back}
 use Rattle.search.proofs.Sound.{Comes}
 use Rattle.search.proofs.Theorem.{Whole}
 use Rattle.records.specs.Records.{origin_word, most_nodes, graph_words, record_place, graph_list}
+use Rattle.records.specs.Steps.{origin_at}
 use Rattle.records.proofs.Places.{zeros-left}
 use Rattle.records.proofs.Listed.{record_at}
 use Rattle.verdict.specs.Verdicts.{path_words, path_list, steps_to}
-use Rattle.verdict.specs.Working.{origin_at, hop_if, back_at, Earlier, Traced}
+use Rattle.verdict.specs.Working.{hop_if, back_at, Earlier, Traced}
 
 module _ (l : List ℕ) (a f k : ℕ) where
   at-root : origin_at l a k ≡ origin_word Root → back_at l a (suc f) k ≡ []

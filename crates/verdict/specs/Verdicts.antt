@@ -1,6 +1,5 @@
 -- The findings of a whole graph in judging order, and what Judge leaves in the path list.
 --
--- Finding                              — a node that may meet a forbidden combination; a node and action that may run a variable off an end of its range
 -- opposite, contradicted               — the other literal of the predicate; some literal of a node is the opposite of one of a combination
 -- unless                               — what is found unless a test holds
 -- forbids                              — the combinations that no literal of the node contradicts
@@ -15,6 +14,8 @@
 use Rattle.std.specs.Prelude.{Bool, true, false, cond, ◌||◌, List, [], ◌∷◌, ◌++◌, map, ℕ, zero, suc, ◌-◌, eqb, length, drop, replicate}
 use Rattle.words.specs.Words.{word, kind_of, payload, STEP}
 pub use Rattle.words.specs.Limits.{path_words}
+use Rattle.verdict.specs.declared.Finding.{Finding}
+use Rattle.verdict.specs.declared.Finding.TheVariants.{Forbid, RunOff}
 use Rattle.words.specs.declared.Literals.{Literals}
 use Rattle.grammar.specs.Programs.{Assignment, Action, Program}
 use Rattle.lemmas.specs.Lemmas.{Goal, NotBelow, NotAbove, Lemma}
@@ -25,11 +26,6 @@ use Rattle.search.specs.Paths.{path}
 use Rattle.records.specs.Records.{most_nodes}
 use Rattle.abstraction.specs.Abstraction.{among, applies, successor}
 use Rattle.abstraction.specs.Faithful.{literals_at}
-
--- node and combination; node, action, variable, and whether it is the high end
-pub data Finding : Type 0 where
-  Forbid : ℕ → ℕ → Finding
-  RunOff : ℕ → ℕ → ℕ → Bool → Finding
 
 abbrev pub opposite : Literal → Literal
 opposite (B j) = NotB j

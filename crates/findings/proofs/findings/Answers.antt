@@ -1,33 +1,22 @@
 use native.Mathlib.Omega.{arith}
-use Rattle.lemmas.specs.Sources.{the_program}
-use Rattle.tables.specs.Tabled.{the_lemmas}
-use Rattle.findings.proofs.Whole.{short-graph, no-graph, complete, listed}
+use Rattle.std.proofs.lemmas.Grind.{common_steps}
+use Rattle.std.proofs.lemmas.Result.{err_from_is_err_and}
+use Rattle.findings.proofs.Promised.{surveyed-sheet}
+use Rattle.findings.proofs.Whole.{listed}
 use Rattle.findings.proofs.findings.Goals as goal
 
-pub returns-then-graph-lt-ROOM : goal.returns-then-graph-lt-ROOM
-returns-then-graph-lt-ROOM c =
-    let all = short-graph c.args.words.now c.args.lemmas.now c.args.graph.now c.args.list.now c.if-graph-lt-ROOM.true in record { answer = all.0; graph = all.1.0; list = all.1.1.0; sheet = all.1.1.1.0; demand3 = all.1.1.1.1.0; judge = all.1.1.1.1.1 }
-
-pub survey-surveyed-requires : goal.survey-surveyed-requires
-survey-surveyed-requires c = (c.if-graph-lt-ROOM.false, omega arith, omega arith, omega arith)
-
-pub returns-in-Failed : goal.returns-in-Failed
-returns-in-Failed c =
-    let all = no-graph c.args.words.now c.args.lemmas.now c.args.graph.now c.args.list.now c.if-graph-lt-ROOM.false c.survey-surveyed.result c.survey-surveyed.new.premises c.survey-surveyed.new.keys c.survey-surveyed.ensures c.in-Failed.is in record { answer = all.0; graph = all.1.0; list = all.1.1.0; sheet = all.1.1.1.0; demand3 = all.1.1.1.1.0; judge = all.1.1.1.1.1 }
-
-pub list_all-requires : goal.list_all-requires
-list_all-requires c =
-    let w = complete c.args.words.now c.args.lemmas.now c.args.graph.now c.args.list.now c.if-graph-lt-ROOM.false c.survey-surveyed.result c.survey-surveyed.new.premises c.survey-surveyed.new.keys c.survey-surveyed.ensures c.in_default.is in (
-      w.held,
-      w.masks,
-      w.few.0,
-      w.few.1,
-      omega (arith, c.survey-surveyed.auto.graph, c.if-graph-lt-ROOM.false),
-      (the_lemmas (the_program c.args.words.now) c.args.lemmas.now, w.made, c.survey-surveyed.result.edges, w.ready),
-      omega (arith, c.survey-surveyed.auto.scratch),
-    )
+pub returns-in_err-surveyed-clause-sheet : goal.returns-in_err-surveyed-clause-sheet
+returns-in_err-surveyed-clause-sheet c =
+    let p = err_from_is_err_and c.from_residual.result c.from_residual.ensures.1 in
+    rw (p.1, p.2) (surveyed-sheet c.args.words.now c.args.lemmas.now c.args.graph.now c.args.list.now _ c.in_err-surveyed.ensures)
 
 pub returns : goal.returns
 returns c =
-    let w = complete c.args.words.now c.args.lemmas.now c.args.graph.now c.args.list.now c.if-graph-lt-ROOM.false c.survey-surveyed.result c.survey-surveyed.new.premises c.survey-surveyed.new.keys c.survey-surveyed.ensures c.in_default.is in
-    let all = listed c.args.words.now c.args.lemmas.now c.args.graph.now c.args.list.now c.if-graph-lt-ROOM.false c.survey-surveyed.result c.survey-surveyed.new.premises c.survey-surveyed.new.keys c.survey-surveyed.ensures c.in_default.is (c.list_all.ensures (the_lemmas (the_program c.args.words.now) c.args.lemmas.now) w.made c.survey-surveyed.result.edges w.ready _) in record { answer = all.0; graph = all.1.0; list = all.1.1.0; sheet = all.1.1.1.0; demand3 = all.1.1.1.1.0; judge = all.1.1.1.1.1 }
+    let w = c.in_ok-surveyed.ensures in
+    let v = c.list_all.ensures _ _ w.made (c.case_of-case.ensures _ _ w.made w.ready) _ in
+    let all = listed c.args.words.now c.args.lemmas.now c.args.graph.now c.args.list.now c.if-graph-lt-ROOM.false w v in
+    record { answer = all.answer; graph = all.graph; list = all.list; sheet = all.sheet; demand3 = all.demand3; judge = all.judge }
+
+-- found alone; written out so that an edit is refused here
+pub returns-then-graph-lt-ROOM-clause-answer : goal.returns-then-graph-lt-ROOM-clause-answer
+returns-then-graph-lt-ROOM-clause-answer c = grind (arith, common_steps)

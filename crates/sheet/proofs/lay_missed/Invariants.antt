@@ -1,4 +1,4 @@
--- What is left of the places from `place` on is left to be laid. The measure is what is left of the 16.
+-- What is left of the places from `place` on is left to be laid.
 use Prim.Native.Nat.{◌+◌, ◌-◌, ◌≤◌}
 use Rattle.sheet.specs.Laying.{missed}
 use Rattle.sheet.proofs.Laying.{Left}
@@ -6,7 +6,4 @@ use Rattle.sheet.proofs.lay_missed.Given as goal
 
 abbrev pub invariant-loop-place : goal.invariant-loop-place
 invariant-loop-place l =
-    (28 ≤ l.place) × ((l.place ≤ 44) × ((l.at + 28 ≤ l.i + l.place) × Left (missed l.missing l.k l.j 28 16) l.initial.list l.i l.list l.at (missed l.missing l.k l.j l.place (44 - l.place))))
-
-abbrev pub decreases-loop-place : goal.decreases-loop-place
-decreases-loop-place l = 44 - l.place
+    (l.at + 28 ≤ l.i + l.place) × Left (missed l.missing l.k l.j 28 16) l.initial.list l.i l.list l.at (missed l.missing l.k l.j l.place (44 - l.place))

@@ -1,63 +1,57 @@
+use Rattle.std.proofs.Common.{◌≡◌, ◌∙◌, sym, arith, Some, None}
+use Rattle.std.proofs.lemmas.List.{length-take-le}
+use Rattle.std.proofs.lemmas.Result.{err_from_is_err_and}
+use Rattle.words.specs.declared.Refusal.TheVariants.{Nodes}
 use Rattle.lemmas.specs.Sources.{the_program}
 use Rattle.ask.proofs.Asking.{Program-read, program-read}
-use Rattle.survey.proofs.Surveying.{refuses, no_program, no-lemmas, begun, sum-off, actions-few, too_many, complete, masks-long}
-use mathlib.Core.Path.{◌∙◌}
-use native.Mathlib.Omega.{arith}
-use borrow.Author.Rules.{rules}
+use Rattle.survey.proofs.Surveying.{listed-few, begun, too_many, complete, masks-long, actions-few}
 use Rattle.survey.proofs.survey.Goals as goal
-use Rattle.survey.proofs.survey.Goals.{In_default}
+use Rattle.survey.proofs.survey.Goals.{In_ok-image}
 
-known : (c : In_default) → Program-read c.args.words.now c.load-loaded.ensures
-known c =
-    program-read c.args.words.now c.load-loaded.ensures c.in_default.is
+known : (c : In_ok-image) → Program-read c.args.words.now c.in_ok-image.image
+known c = program-read c.args.words.now c.in_ok-image.ensures
 
-pub returns-in-Failed : goal.returns-in-Failed
-returns-in-Failed c =
-    refuses c.args.words.now c.args.lemmas.now c.args.graph.now c.stopped.result c.args.premises.now c.args.keys.now c.stopped.ensures (no_program c.args.words.now c.args.lemmas.now c.args.graph.now c.load-loaded.ensures c.in-Failed.is)
+pub invariant_of-loaded : goal.invariant_of-loaded
+invariant_of-loaded c = record { held = (known (goal.at.invariant_of-loaded c).In_ok-image).held }
 
-pub list-list-requires : goal.list-list-requires
-list-list-requires c = ((known (goal.at.list-list-requires c).In_default).held, search rules)
+pub slice_bounds-tabulate-end : goal.slice_bounds-tabulate-end
+slice_bounds-tabulate-end c =
+    let few = listed-few c.args.words.now c.args.lemmas.now (known (goal.at.slice_bounds-tabulate-end c).In_ok-image) c.args.scratch.now _ _ c.in_ok-listed.ensures in
+    omega arith
 
-pub returns-in-Failed-status : goal.returns-in-Failed-status
-returns-in-Failed-status c =
-    refuses c.args.words.now c.args.lemmas.now c.args.graph.now c.stopped-in-Failed-status.result c.args.premises.now c.args.keys.now c.stopped-in-Failed-status.ensures (no-lemmas c.args.words.now c.args.lemmas.now c.args.graph.now c.load-loaded.ensures (known (goal.at.returns-in-Failed-status c).In_default) c.args.scratch.now _ c.list-list.result c.list-list.ensures c.in-Failed-status.is)
+pub slice_bounds-tabulate-end-2 : goal.slice_bounds-tabulate-end-2
+slice_bounds-tabulate-end-2 c =
+    let few = listed-few c.args.words.now c.args.lemmas.now (known (goal.at.slice_bounds-tabulate-end-2 c).In_ok-image) c.args.scratch.now _ _ c.in_ok-listed.ensures in
+    sym (length-take-le _ _ (omega arith))
 
-pub tabulate-tables-requires : goal.tabulate-tables-requires
-tabulate-tables-requires c =
-    ((known (goal.at.tabulate-tables-requires c).In_default).held, begun c.args.words.now c.args.lemmas.now c.args.graph.now c.load-loaded.ensures (known (goal.at.tabulate-tables-requires c).In_default) c.args.scratch.now _ c.list-list.result c.list-list.ensures c.in_default-status.is (omega (arith, c.requires.3)), omega (arith, c.list-list.auto.begins, c.requires.3), c.requires.1, c.requires.2)
-
-pub returns-then-off-count : goal.returns-then-off-count
-returns-then-off-count c =
-    refuses c.args.words.now c.args.lemmas.now c.args.graph.now c.stopped-then-off-count.result _ _ c.stopped-then-off-count.ensures (sum-off c.args.words.now c.args.lemmas.now c.args.graph.now c.load-loaded.ensures (known (goal.at.returns-then-off-count c).In_default) c.args.scratch.now _ c.list-list.result c.list-list.ensures c.in_default-status.is c.tabulate-tables.ensures c.if-off-count.true)
+pub tabulate-requires : goal.tabulate-requires
+tabulate-requires c =
+    let k = known (goal.at.tabulate-requires c).In_ok-image in
+    let few = listed-few c.args.words.now c.args.lemmas.now k c.args.scratch.now _ _ c.in_ok-listed.ensures in
+    (begun c.args.words.now c.args.lemmas.now k c.args.scratch.now _ _ c.in_ok-listed.ensures (omega arith) (omega arith), omega arith)
 
 pub masks-kept-requires : goal.masks-kept-requires
 masks-kept-requires c =
-    let h = (known (goal.at.masks-kept-requires c).In_default).held in
+    let h = (known (goal.at.masks-kept-requires c).In_ok-image).held in
     (the_program c.args.words.now, h.accepted.good, h.same)
 
-pub explore-explored-requires : goal.explore-explored-requires
-explore-explored-requires c =
-    let known' : (Program-read c.args.words.now c.load-loaded.ensures) = (program-read c.args.words.now c.load-loaded.ensures c.in_default.is) in
+pub explore-requires : goal.explore-requires
+explore-requires c =
+    let k = known (goal.at.explore-requires c).In_ok-image in
     let p = the_program c.args.words.now in
-    let masks = c.masks-kept.ensures p known'.held.same in
-    (c.tabulate-tables.ensures.few.0, c.tabulate-tables.ensures.few.1, masks-long p masks, c.requires.0, omega (arith, c.list-list.auto.begins, c.requires.3), actions-few c.args.words.now c.args.lemmas.now c.args.graph.now c.load-loaded.ensures known' c.args.scratch.now _ c.list-list.result c.list-list.ensures c.in_default-status.is c.tabulate-tables.ensures c.if-off-count.false)
+    (masks-long p (c.masks-kept.ensures p k.held.same), omega arith, omega arith, actions-few c.args.words.now c.args.lemmas.now k)
 
-pub shape_of-premises-in-Full : goal.shape_of-premises-in-Full
-shape_of-premises-in-Full c = c.tabulate-tables.auto.premises
+pub returns-in_err-nodes : goal.returns-in_err-nodes
+returns-in_err-nodes c =
+    let k = known (goal.at.returns-in_err-nodes c).In_ok-image in
+    let none : c.explore.result ≡ None = grind arith in
+    let why : c.in_err-nodes.field-0.0 ≡ Nodes = grind arith in
+    let p = err_from_is_err_and c.from_residual-in_err-nodes.result c.from_residual-in_err-nodes.ensures.1 in
+    rw (p.1, p.2, why)
+    (too_many c.args.words.now c.args.lemmas.now k c.args.scratch.now _ _ c.in_ok-listed.ensures c.args.graph.now c.in_ok-count.ensures (c.masks-kept.ensures _ k.held.same) c.explore.ensures.1 (sym none ∙ c.explore.ensures.0))
 
-pub shape_of-scratch-in-Full : goal.shape_of-scratch-in-Full
-shape_of-scratch-in-Full c = c.explore-explored.auto.scratch ∙ c.list-list.auto.begins
-
-pub returns-in-Full : goal.returns-in-Full
-returns-in-Full c =
-    let known' : (Program-read c.args.words.now c.load-loaded.ensures) = (program-read c.args.words.now c.load-loaded.ensures c.in_default.is) in
-    let p = the_program c.args.words.now in
-    let masks = c.masks-kept.ensures p known'.held.same in
-    refuses c.args.words.now c.args.lemmas.now c.args.graph.now c.stopped-in-Full.result _ _ c.stopped-in-Full.ensures (too_many c.args.words.now c.args.lemmas.now c.args.graph.now c.load-loaded.ensures known' c.args.scratch.now _ c.list-list.result c.list-list.ensures c.in_default-status.is c.tabulate-tables.ensures c.if-off-count.false masks c.explore-explored.ensures.0 c.explore-explored.ensures.1 c.in-Full.is)
-
-pub returns-in-Whole : goal.returns-in-Whole
-returns-in-Whole c =
-    let known' : (Program-read c.args.words.now c.load-loaded.ensures) = (program-read c.args.words.now c.load-loaded.ensures c.in_default.is) in
-    let p = the_program c.args.words.now in
-    let masks = c.masks-kept.ensures p known'.held.same in
-    complete c.args.words.now c.args.lemmas.now c.args.graph.now c.load-loaded.ensures known' c.args.scratch.now _ c.list-list.result c.list-list.ensures c.in_default-status.is c.tabulate-tables.ensures c.if-off-count.false masks c.explore-explored.ensures.0 c.explore-explored.ensures.1 c.in-Whole.is
+pub returns : goal.returns
+returns c =
+    let k = program-read c.args.words.now c.in_ok-image.ensures in
+    let some : c.explore.result ≡ Some (c.in_ok-nodes.nodes, c.in_ok-nodes.edges) = grind arith in
+    complete c.args.words.now c.args.lemmas.now k c.args.scratch.now _ _ c.in_ok-listed.ensures c.args.graph.now c.in_ok-count.ensures (c.masks-kept.ensures _ k.held.same) c.explore.ensures.1 (sym some ∙ c.explore.ensures.0)

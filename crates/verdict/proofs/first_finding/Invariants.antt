@@ -1,21 +1,13 @@
--- Nothing is found before node k; within a block `passed` speaks of its nodes. The measure is what is left of the nodes.
-use mathlib.Core.Path.{◌≡◌}
+-- Nothing is found before node k; within a block `passed` speaks of its nodes.
 use mathlib.Core.List.{List}
-use Prim.Native.Nat.{◌-◌, ◌*◌, ◌/◌, ◌%◌, ◌<◌, ◌≤◌}
-use lib.ListN.{length}
+use Prim.Native.Nat.{◌*◌, ◌/◌, ◌%◌, ◌<◌}
 use Rattle.grammar.specs.Programs.{Program}
 use Rattle.lemmas.specs.Lemmas.{Lemma}
-use Rattle.gather.specs.Gathering.{entries}
-use Rattle.search.specs.Search.{Graph, count}
+use Rattle.search.specs.Search.{Graph}
 use Rattle.verdict.specs.Working.{Judging, Clean}
 use Rattle.verdict.proofs.Judging.{Nothing_before}
 use Rattle.verdict.proofs.first_finding.Given as goal
 
 abbrev pub invariant-loop-k : goal.invariant-loop-k
 invariant-loop-k l =
-    ((p : Program) (ls : List Lemma) (g : Graph) → Judging p ls g (entries l.premises l.keys l.n) l.literals l.forbidden l.asked l.kept l.actions l.graph → l.nodes ≡ count g → Nothing_before p ls g l.nodes l.k)
-    × (l.k ≤ l.nodes) × (length l.scratch ≡ length l.initial.scratch)
-    × (0 < l.k % 64 → Clean (entries l.premises l.keys l.n) l.literals l.forbidden l.asked l.kept l.actions l.graph l.nodes (l.k / 64 * 64) l.passed)
-
-abbrev pub decreases-loop-k : goal.decreases-loop-k
-decreases-loop-k l = l.nodes - l.k
+    ((p : Program) (ls : List Lemma) (g : Graph) → Judging p ls g l.case → Nothing_before p ls g l.k) × (0 < l.k % 64 → Clean l.case (l.k / 64 * 64) l.passed)

@@ -1,21 +1,18 @@
-use mathlib.Core.Path.{sym, subst}
-use Prim.Native.Nat.{◌+◌}
-use native.Mathlib.Omega.{arith}
+use mathlib.Core.Path.{sym, subst, ◌∙◌}
 use Rattle.verdict.specs.Working.{Within}
 use Rattle.verdict.proofs.Judging.{node-forbids, node-off, off-within}
 use Rattle.verdict.proofs.found_at.Goals as goal
 
-pub returns-then-b-forbidden : goal.returns-then-b-forbidden
-returns-then-b-forbidden c =
-    let w = c.word_at-set in
-    let k = c.args.k in
-    (omega arith, λ p ls g J h. node-forbids J k h w.result c.first_free-b.result w.ensures c.first_free-b.ensures (omega arith))
+pub returns-in-Some-clause-found : goal.returns-in-Some-clause-found
+returns-in-Some-clause-found c =
+    let s = c.set_at-set in
+    λ p ls g J. node-forbids J c.args.k c.requires s.result s.ensures c.in-Some.b (rw c.combinations.ensures at c.in-Some.ensures)
 
-pub returns : goal.returns
-returns c =
-    let w = c.word_at-set in
+pub returns-in-None : goal.returns-in-None
+returns-in-None c =
+    let s = c.set_at-set in
     let a = c.args in
-    let shown = c.gather_all-known in (
-      subst (Within (a.k + 1)) (sym c.first_unshown.ensures) (off-within a.asked shown.result a.k 0 a.actions),
-      λ p ls g J h. node-off J a.k h w.result c.first_free-b.result w.ensures c.first_free-b.ensures (omega arith) shown.result shown.ensures c.first_unshown.result c.first_unshown.ensures,
-    )
+    let shown = c.gather_all-known in record {
+      within = subst (Within a.case.now.nodes) (sym c.first_unshown.ensures) (off-within a.case.now.asked shown.result a.k a.case.now.nodes c.requires 0 a.case.now.image.now.actions);
+      found = λ p ls g J. c.first_unshown.ensures ∙ node-off J a.k c.requires s.result s.ensures (rw c.combinations.ensures at c.in-None.ensures) shown.result shown.ensures;
+    }

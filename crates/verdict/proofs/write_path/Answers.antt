@@ -6,4 +6,4 @@ pub returns : goal.returns
 returns c =
     let d = c.count_steps-d in
     let a = c.args in
-    path-written a.graph.now a.actions a.node d.result a.path.now _ _ (omega arith) d.ensures.0 d.ensures.1 c.clear.ensures c.write_steps.ensures
+    path-written a.records.list.now a.records.actions a.node d.result a.path.now _ _ (omega arith) d.ensures.0 d.ensures.1 c.clear.ensures c.write_steps.ensures

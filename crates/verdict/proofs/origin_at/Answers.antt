@@ -1,4 +1,0 @@
-use Rattle.verdict.proofs.origin_at.Goals as goal
-
-pub returns : goal.returns
-returns c = rw c.record_place-at.ensures.0
