@@ -1,7 +1,7 @@
 // The calls for C and Rust: lists are lent, answers are records of numbers. include/bulanevior.h describes them for their callers.
 #![tactic(auto)]
 
-ghost use Rattle.std.specs.Prelude.{◌≡◌, cond, ◌↔◌, ◌+◌, ◌≤◌, pos, ◌<ℤ◌, length, take, drop};
+ghost use Rattle.std.specs.Prelude.{◌≡◌, ◌↔◌, ◌+◌, ◌≤◌, pos, ◌<ℤ◌, length, take, drop, Ok};
 ghost use Rattle.programs.specs.Calls.{read, check, action_part, part_place};
 ghost use Rattle.runs.specs.declared.Stepped.TheVariants.{NotEnabled};
 ghost use Rattle.runs.specs.Calls.{step_call};
@@ -10,19 +10,16 @@ ghost use Rattle.rack.specs.Rack.{rack_call};
 ghost use Rattle.ask.specs.Calls.{ask, TrueIn};
 ghost use Rattle.judge.specs.Calls.{judge};
 ghost use Rattle.judge.specs.Worth.{SafeOf};
-ghost use Rattle.judge.specs.declared.Judged.TheVariants.{Safe, Refused};
 ghost use Rattle.findings.specs.Calls.{listing};
 ghost use Rattle.view.specs.Views.{viewed};
 ghost use Rattle.show.specs.Show.{show, words_left, SafeShow};
-ghost use Rattle.exports.specs.Numbers.{check_of, part_of, step_of, ask_of, judge_of, not_judged, show_of, findings_of, successor_of, version};
+ghost use Rattle.exports.specs.Numbers.{check_of, part_of, step_of, ask_of, judge_of, show_of, findings_of, successor_of, version};
 
 use ask::Asked;
-use findings::Listed;
 use judge::Judged;
-use programs::Checked;
+use programs::{Counts, Part};
 use runs::{Failing, Stepped};
-use show::Shown;
-use view::Viewed;
+use show::{Answered, Unread};
 use words::Refusal;
 
 // Major times 1,000,000, minor times 1,000, and patch.
@@ -56,30 +53,32 @@ pub struct BnvCheck {
     pub forbidden: usize,
 }
 
-fn check_of(c: Checked) -> BnvCheck
-    ensures { result ≡ check_of c }
-{
-    match c {
-        Checked::Good(n) => BnvCheck {
-            answer: BNV_GOOD,
-            refusal: 0,
-            value: 0,
-            variables: n.variables,
-            start_rows: n.start_rows,
-            predicates: n.predicates,
-            actions: n.actions,
-            forbidden: n.forbidden,
-        },
-        Checked::Refused(why) => BnvCheck {
-            answer: BNV_CHECK_REFUSED,
-            refusal: words::number_of(why),
-            value: words::value_of(why),
-            variables: 0,
-            start_rows: 0,
-            predicates: 0,
-            actions: 0,
-            forbidden: 0,
-        },
+impl From<Result<Counts, Refusal>> for BnvCheck {
+    ghost from_gives = { λ checked b. b ≡ check_of checked };
+
+    fn from(checked: Result<Counts, Refusal>) -> BnvCheck {
+        match checked {
+            Ok(n) => BnvCheck {
+                answer: BNV_GOOD,
+                refusal: 0,
+                value: 0,
+                variables: n.variables,
+                start_rows: n.start_rows,
+                predicates: n.predicates,
+                actions: n.actions,
+                forbidden: n.forbidden,
+            },
+            Err(why) => BnvCheck {
+                answer: BNV_CHECK_REFUSED,
+                refusal: why.number(),
+                value: why.value(),
+                variables: 0,
+                start_rows: 0,
+                predicates: 0,
+                actions: 0,
+                forbidden: 0,
+            },
+        }
     }
 }
 
@@ -89,7 +88,7 @@ pub extern "C" fn bnv_check(words: &[u32]) -> BnvCheck
     ensures answer { result ≡ check_of (check words.now) }
     ensures nonzero { 1 ≤ result.answer }
 {
-    check_of(programs::check(words))
+    programs::check(words).into()
 }
 
 #[repr(C)]
@@ -99,6 +98,17 @@ pub struct BnvPart {
     pub length: usize,
 }
 
+impl From<Part> for BnvPart {
+    ghost from_gives = { λ p b. b ≡ part_of p };
+
+    fn from(part: Part) -> BnvPart {
+        BnvPart {
+            start: part.start,
+            length: part.length,
+        }
+    }
+}
+
 // Action part, as its place in the caller's list.
 #[unsafe(no_mangle)]
 pub extern "C" fn bnv_action_part(words: &[u32], k: usize) -> BnvPart
@@ -106,11 +116,7 @@ pub extern "C" fn bnv_action_part(words: &[u32], k: usize) -> BnvPart
     ensures part { (take result.length (drop result.start words.now) ≡ action_part words.now k)
         × (result.start + result.length ≤ length words.now) × (result.length ≡ length (action_part words.now k)) }
 {
-    let part = programs::part_place(words, k);
-    BnvPart {
-        start: part.start,
-        length: part.length,
-    }
+    programs::part_place(words, k).into()
 }
 
 pub const BNV_NOT_ENABLED: u32 = 1;
@@ -133,52 +139,43 @@ pub struct BnvStep {
     pub value: usize,
 }
 
-// The guard row that fails, in 32 bits.
-fn not_enabled(failing: Failing) -> BnvStep
-    requires { Fits failing }
-    ensures { result ≡ step_of (NotEnabled failing) }
-{
-    let row = failing.row as u32;
-    let row_value = failing.value as i32;
-    BnvStep {
-        answer: BNV_NOT_ENABLED,
-        row,
+impl BnvStep {
+    const ZERO: BnvStep = BnvStep {
+        answer: 0,
+        row: 0,
         variable: 0,
         refusal: 0,
-        row_value,
+        row_value: 0,
         value: 0,
-    }
+    };
 }
 
-fn step_of(s: Stepped) -> BnvStep
-    requires { (f : Failing) → s ≡ NotEnabled f → Fits f }
-    ensures { result ≡ step_of s }
+// A function and no `From`: the guard row that fails has to fit 32 bits, and a `From` requires nothing.
+fn step_of(stepped: Result<Stepped, Refusal>) -> BnvStep
+    requires { (f : Failing) → stepped ≡ Ok (NotEnabled f) → Fits f }
+    ensures { result ≡ step_of stepped }
 {
-    match s {
-        Stepped::Moved => BnvStep {
+    match stepped {
+        Ok(Stepped::Moved) => BnvStep {
             answer: BNV_MOVED,
-            row: 0,
-            variable: 0,
-            refusal: 0,
-            row_value: 0,
-            value: 0,
+            ..BnvStep::ZERO
         },
-        Stepped::NotEnabled(failing) => not_enabled(failing),
-        Stepped::RunsOff(v) => BnvStep {
+        Ok(Stepped::NotEnabled(failing)) => BnvStep {
+            answer: BNV_NOT_ENABLED,
+            row: failing.row as u32,
+            row_value: failing.value as i32,
+            ..BnvStep::ZERO
+        },
+        Ok(Stepped::RunsOff(variable)) => BnvStep {
             answer: BNV_RUNS_OFF,
-            row: 0,
-            variable: v,
-            refusal: 0,
-            row_value: 0,
-            value: 0,
+            variable,
+            ..BnvStep::ZERO
         },
-        Stepped::Refused(why) => BnvStep {
+        Err(why) => BnvStep {
             answer: BNV_STEP_REFUSED,
-            row: 0,
-            variable: 0,
-            refusal: words::number_of(why),
-            row_value: 0,
-            value: words::value_of(why),
+            refusal: why.number(),
+            value: why.value(),
+            ..BnvStep::ZERO
         },
     }
 }
@@ -191,7 +188,7 @@ pub extern "C" fn bnv_step(words: &[u32], k: usize, state: &mut [i32]) -> BnvSte
     ensures nonzero { 1 ≤ result.answer }
     ensures below { (result.answer ≡ 1) ↔ (result.row_value <ℤ pos 0) }
 {
-    step_of(runs::step(words, k, &mut *state))
+    step_of(runs::step(words, k, state))
 }
 
 // The rack's step. It never answers BNV_RUNS_OFF.
@@ -203,7 +200,7 @@ pub extern "C" fn bnv_rack_step(words: &[u32], k: usize, state: &mut [i32]) -> B
     ensures never_off { result.answer ≡ 2 → ⊥ }
     ensures below { (result.answer ≡ 1) ↔ (result.row_value <ℤ pos 0) }
 {
-    step_of(rack::rack_step(words, k, &mut *state))
+    step_of(rack::rack_step(words, k, state))
 }
 
 pub const BNV_NOT_ACCEPTED: u32 = 1;
@@ -220,25 +217,33 @@ pub struct BnvAsk {
     pub value: usize,
 }
 
-fn ask_of(a: Asked) -> BnvAsk
-    ensures { result ≡ ask_of a }
-{
-    match a {
-        Asked::Accepted => BnvAsk {
-            answer: BNV_ACCEPTED,
-            refusal: 0,
-            value: 0,
-        },
-        Asked::NotAccepted => BnvAsk {
-            answer: BNV_NOT_ACCEPTED,
-            refusal: 0,
-            value: 0,
-        },
-        Asked::Refused(why) => BnvAsk {
-            answer: BNV_ASK_REFUSED,
-            refusal: words::number_of(why),
-            value: words::value_of(why),
-        },
+impl BnvAsk {
+    const ZERO: BnvAsk = BnvAsk {
+        answer: 0,
+        refusal: 0,
+        value: 0,
+    };
+}
+
+impl From<Result<Asked, Refusal>> for BnvAsk {
+    ghost from_gives = { λ asked b. b ≡ ask_of asked };
+
+    fn from(asked: Result<Asked, Refusal>) -> BnvAsk {
+        match asked {
+            Ok(Asked::Accepted) => BnvAsk {
+                answer: BNV_ACCEPTED,
+                ..BnvAsk::ZERO
+            },
+            Ok(Asked::NotAccepted) => BnvAsk {
+                answer: BNV_NOT_ACCEPTED,
+                ..BnvAsk::ZERO
+            },
+            Err(why) => BnvAsk {
+                answer: BNV_ASK_REFUSED,
+                refusal: why.number(),
+                value: why.value(),
+            },
+        }
     }
 }
 
@@ -249,7 +254,7 @@ pub extern "C" fn bnv_ask(words: &[u32], lemmas: &[u32], k: usize) -> BnvAsk
     ensures nonzero { 1 ≤ result.answer }
     ensures truth { result.answer ≡ 3 → TrueIn (read words.now) lemmas.now k }
 {
-    ask_of(ask::ask(words, lemmas, k))
+    ask::ask(words, lemmas, k).into()
 }
 
 pub const BNV_MAY_FORBID: u32 = 1;
@@ -276,72 +281,56 @@ pub struct BnvJudge {
     pub value: usize,
 }
 
-fn flag(yes: bool) -> u32
-    ensures { result ≡ cond yes 1 0 }
-{
-    if yes { 1 } else { 0 }
-}
-
-fn safe(nodes: usize, edges: usize) -> BnvJudge
-    ensures { result ≡ judge_of (Safe nodes edges) }
-{
-    BnvJudge {
-        verdict: BNV_SAFE,
-        node: 0,
-        place: 0,
-        variable: 0,
-        high: 0,
-        nodes,
-        edges,
-        refusal: 0,
-        value: 0,
-    }
-}
-
-fn no_verdict(why: Refusal) -> BnvJudge
-    ensures { result ≡ judge_of (Refused why) }
-{
-    BnvJudge {
-        verdict: BNV_JUDGE_REFUSED,
+impl BnvJudge {
+    const ZERO: BnvJudge = BnvJudge {
+        verdict: 0,
         node: 0,
         place: 0,
         variable: 0,
         high: 0,
         nodes: 0,
         edges: 0,
-        refusal: words::number_of(why),
-        value: words::value_of(why),
-    }
+        refusal: 0,
+        value: 0,
+    };
 }
 
-fn judge_of(j: Judged) -> BnvJudge
-    ensures { result ≡ judge_of j }
-{
-    match j {
-        Judged::Safe(nodes, edges) => safe(nodes, edges),
-        Judged::MayForbid(node, bad, nodes, edges) => BnvJudge {
-            verdict: BNV_MAY_FORBID,
-            node,
-            place: bad,
-            variable: 0,
-            high: 0,
-            nodes,
-            edges,
-            refusal: 0,
-            value: 0,
-        },
-        Judged::MayRunOff(node, action, variable, high, nodes, edges) => BnvJudge {
-            verdict: BNV_MAY_RUN_OFF,
-            node,
-            place: action,
-            variable,
-            high: flag(high),
-            nodes,
-            edges,
-            refusal: 0,
-            value: 0,
-        },
-        Judged::Refused(why) => no_verdict(why),
+impl From<Result<Judged, Refusal>> for BnvJudge {
+    ghost from_gives = { λ judged b. b ≡ judge_of judged };
+
+    fn from(judged: Result<Judged, Refusal>) -> BnvJudge {
+        match judged {
+            Ok(Judged::Safe(nodes, edges)) => BnvJudge {
+                verdict: BNV_SAFE,
+                nodes,
+                edges,
+                ..BnvJudge::ZERO
+            },
+            Ok(Judged::MayForbid(node, bad, nodes, edges)) => BnvJudge {
+                verdict: BNV_MAY_FORBID,
+                node,
+                place: bad,
+                nodes,
+                edges,
+                ..BnvJudge::ZERO
+            },
+            Ok(Judged::MayRunOff(node, action, variable, high, nodes, edges)) => BnvJudge {
+                verdict: BNV_MAY_RUN_OFF,
+                node,
+                place: action,
+                variable,
+                high: u32::from(high),
+                nodes,
+                edges,
+                ..BnvJudge::ZERO
+            },
+            Err(why) => BnvJudge {
+                verdict: BNV_JUDGE_REFUSED,
+                refusal: why.number(),
+                value: why.value(),
+                ..BnvJudge::ZERO
+            },
+        }
     }
 }
 
@@ -359,7 +348,7 @@ pub extern "C" fn bnv_judge(
     ensures nonzero { 1 ≤ result.verdict }
     ensures demand3 { result.verdict ≡ 4 → SafeOf (read words.now) }
 {
-    judge_of(judge::judge(words, lemmas, &mut *graph, &mut *path))
+    judge::judge(words, lemmas, graph, path).into()
 }
 
 pub const BNV_FINDINGS_REFUSED: u32 = 1;
@@ -376,22 +365,24 @@ pub struct BnvFindings {
     pub count: usize,
 }
 
-fn findings_of(l: Listed) -> BnvFindings
-    ensures { result ≡ findings_of l }
-{
-    match l {
-        Listed::All(count) => BnvFindings {
-            answer: BNV_LISTED,
-            refusal: 0,
-            value: 0,
-            count,
-        },
-        Listed::Refused(why) => BnvFindings {
-            answer: BNV_FINDINGS_REFUSED,
-            refusal: words::number_of(why),
-            value: words::value_of(why),
-            count: 0,
-        },
+impl From<Result<usize, Refusal>> for BnvFindings {
+    ghost from_gives = { λ listed b. b ≡ findings_of listed };
+
+    fn from(listed: Result<usize, Refusal>) -> BnvFindings {
+        match listed {
+            Ok(count) => BnvFindings {
+                answer: BNV_LISTED,
+                refusal: 0,
+                value: 0,
+                count,
+            },
+            Err(why) => BnvFindings {
+                answer: BNV_FINDINGS_REFUSED,
+                refusal: why.number(),
+                value: why.value(),
+                count: 0,
+            },
+        }
     }
 }
 
@@ -409,7 +400,7 @@ pub extern "C" fn bnv_findings(
     ensures nonzero { 1 ≤ result.answer }
     ensures demand3 { result.answer ≡ 2 → result.count ≡ 0 → SafeOf (read words.now) }
 {
-    findings_of(findings::findings(words, lemmas, &mut *graph, &mut *findings))
+    findings::findings(words, lemmas, graph, findings).into()
 }
 
 pub const BNV_TOO_LONG: u32 = 1;
@@ -431,50 +422,39 @@ pub struct BnvShow {
     pub judged: BnvJudge,
 }
 
-fn not_judged() -> BnvJudge
-    ensures { result ≡ not_judged }
-{
-    BnvJudge {
-        verdict: 0,
-        node: 0,
-        place: 0,
-        variable: 0,
-        high: 0,
-        nodes: 0,
-        edges: 0,
-        refusal: 0,
-        value: 0,
-    }
+impl BnvShow {
+    const ZERO: BnvShow = BnvShow {
+        answer: 0,
+        logic: 0,
+        lemmas: 0,
+        judged: BnvJudge::ZERO,
+    };
 }
 
-fn show_of(s: Shown) -> BnvShow
-    ensures { result ≡ show_of s }
-{
-    match s {
-        Shown::TooLong => BnvShow {
-            answer: BNV_TOO_LONG,
-            logic: 0,
-            lemmas: 0,
-            judged: not_judged(),
-        },
-        Shown::OddBytes => BnvShow {
-            answer: BNV_ODD_BYTES,
-            logic: 0,
-            lemmas: 0,
-            judged: not_judged(),
-        },
-        Shown::WordsShort => BnvShow {
-            answer: BNV_WORDS_SHORT,
-            logic: 0,
-            lemmas: 0,
-            judged: not_judged(),
-        },
-        Shown::Answered(logic, lemmas, answer) => BnvShow {
-            answer: BNV_JUDGED,
-            logic,
-            lemmas,
-            judged: judge_of(answer),
-        },
+impl From<Result<Answered, Unread>> for BnvShow {
+    ghost from_gives = { λ shown b. b ≡ show_of shown };
+
+    fn from(shown: Result<Answered, Unread>) -> BnvShow {
+        match shown {
+            Err(Unread::TooLong) => BnvShow {
+                answer: BNV_TOO_LONG,
+                ..BnvShow::ZERO
+            },
+            Err(Unread::OddBytes) => BnvShow {
+                answer: BNV_ODD_BYTES,
+                ..BnvShow::ZERO
+            },
+            Err(Unread::WordsShort) => BnvShow {
+                answer: BNV_WORDS_SHORT,
+                ..BnvShow::ZERO
+            },
+            Ok(answer) => BnvShow {
+                answer: BNV_JUDGED,
+                logic: answer.logic,
+                lemmas: answer.lemmas,
+                judged: answer.judged.into(),
+            },
+        }
     }
 }
 
@@ -495,7 +475,7 @@ pub extern "C" fn bnv_show(
     ensures safe { result.judged.verdict ≡ 4 → SafeShow bytes.now }
     ensures nonzero { 1 ≤ result.answer }
 {
-    show_of(show::show(bytes, &mut *words, &mut *graph, &mut *path))
+    show::show(bytes, words, graph, path).into()
 }
 
 pub const BNV_NO_NODE: u32 = 1;
@@ -513,28 +493,36 @@ pub struct BnvSuccessor {
     pub value: usize,
 }
 
-fn successor_of(v: Viewed) -> BnvSuccessor
-    ensures { result ≡ successor_of v }
-{
-    match v {
-        Viewed::Node(n) => BnvSuccessor {
-            answer: BNV_NODE,
-            node: n,
-            refusal: 0,
-            value: 0,
-        },
-        Viewed::None => BnvSuccessor {
-            answer: BNV_NO_NODE,
-            node: 0,
-            refusal: 0,
-            value: 0,
-        },
-        Viewed::Refused(why) => BnvSuccessor {
-            answer: BNV_SUCCESSOR_REFUSED,
-            node: 0,
-            refusal: words::number_of(why),
-            value: words::value_of(why),
-        },
+impl BnvSuccessor {
+    const ZERO: BnvSuccessor = BnvSuccessor {
+        answer: 0,
+        node: 0,
+        refusal: 0,
+        value: 0,
+    };
+}
+
+impl From<Result<Option<usize>, Refusal>> for BnvSuccessor {
+    ghost from_gives = { λ seen b. b ≡ successor_of seen };
+
+    fn from(seen: Result<Option<usize>, Refusal>) -> BnvSuccessor {
+        match seen {
+            Ok(Some(node)) => BnvSuccessor {
+                answer: BNV_NODE,
+                node,
+                ..BnvSuccessor::ZERO
+            },
+            Ok(None) => BnvSuccessor {
+                answer: BNV_NO_NODE,
+                ..BnvSuccessor::ZERO
+            },
+            Err(why) => BnvSuccessor {
+                answer: BNV_SUCCESSOR_REFUSED,
+                refusal: why.number(),
+                value: why.value(),
+                ..BnvSuccessor::ZERO
+            },
+        }
     }
 }
 
@@ -550,5 +538,5 @@ pub extern "C" fn bnv_successor(
     ensures answer { result ≡ successor_of (viewed graph.now nodes actions node action) }
     ensures nonzero { 1 ≤ result.answer }
 {
-    successor_of(view::successor_of(graph, nodes, actions, node, action))
+    view::successor_of(graph, nodes, actions, node, action).into()
 }

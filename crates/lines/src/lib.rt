@@ -10,12 +10,9 @@ pub fn put_bytes(out: &mut [u8], at: usize, text: &[u8]) -> usize
     requires { at + length text.now ≤ length out.old }
     ensures { Put out.old at text.now out.new result }
 {
-    let mut i: usize = 0;
-    while i < text.len() {
-        out[at + i] = text[i];
-        i += 1;
-    }
-    at + i
+    let behind = at + text.len();
+    out[at..behind].copy_from_slice(text);
+    behind
 }
 
 // The number in decimal, at the place.
@@ -23,9 +20,9 @@ pub fn put_number(out: &mut [u8], at: usize, n: usize) -> usize
     requires { at + length (decimal n) ≤ length out.old }
     ensures { Put out.old at (decimal n) out.new result }
 {
-    let mut text = [0u8; 20];
+    let mut text = [0; 20];
     let k = io::decimal(n as u64, &mut text);
-    put_bytes(&mut *out, at, &text[..k])
+    put_bytes(out, at, &text[..k])
 }
 
 // The text, then the number.
@@ -33,8 +30,8 @@ pub fn put_field(out: &mut [u8], at: usize, text: &[u8], n: usize) -> usize
     requires { at + length (field text.now n) ≤ length out.old }
     ensures { Put out.old at (field text.now n) out.new result }
 {
-    let next = put_bytes(&mut *out, at, text);
-    put_number(&mut *out, next, n)
+    let next = put_bytes(out, at, text);
+    put_number(out, next, n)
 }
 
 // A line of two fields, at the front.
@@ -42,7 +39,7 @@ pub fn put_line(out: &mut [u8], first: &[u8], n: usize, second: &[u8], m: usize)
     requires { length (line first.now n second.now m) ≤ length out.old }
     ensures { Put out.old 0 (line first.now n second.now m) out.new result }
 {
-    let at = put_field(&mut *out, 0, first, n);
-    let next = put_field(&mut *out, at, second, m);
-    put_bytes(&mut *out, next, b"\n")
+    let at = put_field(out, 0, first, n);
+    let next = put_field(out, at, second, m);
+    put_bytes(out, next, b"\n")
 }

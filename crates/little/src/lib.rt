@@ -11,20 +11,13 @@ pub fn space() -> [u32; 16384]
     [0; 16384]
 }
 
-// A byte as a word.
-fn wide(byte: u8) -> u32
-    ensures { (result ≡ byte) × (result < 256) }
-{
-    byte as u32
-}
-
 // Word k of the bytes.
 fn word_at(b: &[u8], k: usize) -> u32
     requires { k * 4 + 4 ≤ length b.now }
     ensures { result ≡ word_at b.now k }
 {
     let at = k * 4;
-    wide(b[at]) + wide(b[at + 1]) * 256 + wide(b[at + 2]) * 65536 + wide(b[at + 3]) * 16777216
+    u32::from_le_bytes([b[at], b[at + 1], b[at + 2], b[at + 3]])
 }
 
 // The first n words of the bytes, to the front of `words`; what lies behind stays.
@@ -32,9 +25,7 @@ pub fn to_words(b: &[u8], words: &mut [u32], n: usize)
     requires { (n * 4 ≤ length b.now) × (n ≤ length words.old) }
     ensures { words.new ≡ words_of b.now n ++ drop n words.old }
 {
-    let mut k = 0;
-    while k < n {
+    for k in 0..n {
         words[k] = word_at(b, k);
-        k += 1;
     }
 }

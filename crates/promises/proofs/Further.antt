@@ -1,5 +1,5 @@
 -- The promises of the requests, with their types and nothing else; what they say of worked shows is in Worked. The calls' own contracts, without any `requires` but `row_at`'s, which is no call from outside; all words are the lent lists' at entry:
---   findings::findings(ws, ls, g, f)    r, g and f at exit are those of listing ws ls g f; SheetOf of r and both lists; r ≡ All 0 → SafeOf (read ws); Agrees with Judge's answer, and g at exit is Judge's  crates/findings/src/lib.rt
+--   findings::findings(ws, ls, g, f)    r, g and f at exit are those of listing ws ls g f; SheetOf of r and both lists; r ≡ Ok 0 → SafeOf (read ws); Agrees with Judge's answer, and g at exit is Judge's  crates/findings/src/lib.rt
 --   reader::row_at(words, at, vars)     where vars ≤ 8 and at ≤ length words: r has the row and where reading goes on, or the refusal, of row vars (drop at words) at, and of fed (begun vars at) (drop at words)  crates/reader/src/lib.rt
 --   rack::rack_step(ws, k, s)           r and s at exit are those of rack_call ws k s                                  crates/rack/src/lib.rt
 --   runs::step, rack::rack_step         Guarded (ready (read ws) k s) k s r                                           crates/runs/src/lib.rt, crates/rack/src/lib.rt
@@ -7,11 +7,12 @@
 --   exports::bnv_findings, _rack_step   the same, r as the records of numbers findings_of and step_of; the rack's answer is not 2; of both steps it is 1 exactly where row_value is below 0  crates/exports/src/lib.rt
 use mathlib.Core.{Path.{◌≡◌}, Bool.{true, false, cond}, Logic.{◌⊎◌, ◌↔◌}, List.{List, ◌∷◌, ◌++◌, map, Memᴰ}}
 use Prim.Native.Nat.{ℕ, ◌+◌, ◌^◌, ◌≤◌, ◌<◌}
+use Rattle.std.specs.Prelude.{None, Ok, Err}
 use lib.{Dec.{eqb}, IntN.{ℤ, pos, ◌+ℤ◌, ◌*ℤ◌}, Signed.{◌≤ℤ◌}, ListN.{length, get_or}}
 use Rattle.words.specs.{Words.{kind_of, payload, DISTANCE, FINDING, signed}, Limits.{most_nodes, most_findings, most_variables}, declared.Refusal.TheVariants.{Word as Missing}, LiteralSets.{Literal, B, NotB, predicate_of, literals_in}}
 use Rattle.rows.specs.{declared.Row.{Row}, Rows.{row_value}}
 use Rattle.grammar.specs.{Reading.{got}, Programs.{Assignment, Action, Program}, WellFormed.{Each, WellFormed}, Grammar.{row}}
-use Rattle.feed.specs.{declared.Fed.TheVariants.{End}, declared.Said.TheVariants.{Complete, Refused}, Steps.{Held, place, row_step, fed, begun}}
+use Rattle.feed.specs.{declared.Said.TheVariants.{Complete}, Steps.{Held, place, row_step, fed, begun}}
 use Rattle.lemmas.specs.{Lemmas.{HoldsAfter, FailsAfter, Lemma}, LemmaGrammar.{LemmaOk, sets_variable}}
 use Rattle.programs.specs.Calls.{read}
 use Rattle.runs.specs.{declared.Failing.{Failing}, declared.Stepped.TheVariants.{RunsOff}, Runs.{all_hold, Inside, Start, new_state, Finished, run}, Guards.{first_failing, Near}, Calls.{step_call}}
@@ -22,7 +23,8 @@ use Rattle.formula.specs.Formula.{False, And, Disabled, Then, follows}
 use Rattle.search.specs.{Search.{To, Graph, count, distance}, Paths.{Walk}}
 use Rattle.records.specs.Records.{distance_offset, record_place}
 use Rattle.abstraction.specs.{Abstraction.{among, shown, successor, graph}, Faithful.{Faithful}}
-use Rattle.verdict.specs.Verdicts.{Finding, findings, steps_to}
+use Rattle.verdict.specs.Verdicts.{findings, steps_to}
+use Rattle.verdict.specs.declared.Finding.{Finding}
 use Rattle.sheet.specs.Sheets.{finding_word, Fits, Due, Sheet, Told}
 use Rattle.judge.specs.{declared.Judged.TheVariants.{Safe as IsSafe}, Calls.{judge}, Worth.{Drawn}, Shortest.{walk_end, ShortestOf}}
 use Rattle.report.specs.Report.{path_line, lines_of, Ends, ShortestShow}
@@ -71,7 +73,7 @@ nothing-missed = Rattle.findings.proofs.Missed.nothing-missed
 -- ---- request 3: read a row once
 -- the steps, fed the words of any list, give what the grammar's reader of a row gives: the row with the words that are left, the one that ended it first, or the refusal; and the list's end always decides: 2 before the ROW, complete after it
 pub row_in_steps : ((vars : ℕ) → vars ≤ most_variables → (i : ℕ) (ws : List ℕ) → fed (begun vars i) ws ≡ row vars ws i)
-    × ((h : Held) → (row_step h End).said ≡ cond (eqb h.kept.taken 0) (Refused (Missing (place h.kept))) Complete)
+    × ((h : Held) → (row_step h None).said ≡ cond (eqb h.kept.taken 0) (Err (Missing (place h.kept))) (Ok Complete))
 row_in_steps = (Rattle.feed.proofs.Feeding.fed-row, Rattle.feed.proofs.Laws.end_decides)
 
 -- ---- request 4: the rack's sixteen bits
@@ -87,12 +89,12 @@ pub rack_stores : (s : List ℤ) → Each (λ z. in16 z ≡ true) s → ((a : Ac
 rack_stores s h = (λ a. Rattle.rack.proofs.Exact.state-kept a s h, λ p ks. Rattle.rack.proofs.Runs.goes_on_lem p ks s h)
 
 -- the call answers moved or not enabled, or refuses; where Step does not run off, it answers and leaves what Step does. Where the exact run of a list of actions does not, it is the rack's
-pub rack_steps : ((ws : List ℕ) (k : ℕ) (s : List ℤ) → ((v : ℕ) → (rack_call ws k s).answer ≡ RunsOff v → ⊥) × (((v : ℕ) → (step_call ws k s).answer ≡ RunsOff v → ⊥) → rack_call ws k s ≡ step_call ws k s))
+pub rack_steps : ((ws : List ℕ) (k : ℕ) (s : List ℤ) → ((v : ℕ) → (rack_call ws k s).answer ≡ Ok (RunsOff v) → ⊥) × (((v : ℕ) → (step_call ws k s).answer ≡ Ok (RunsOff v) → ⊥) → rack_call ws k s ≡ step_call ws k s))
     × ((p : Program) → WellFormed p → (ks : List ℕ) (s : List ℤ) → Inside p s → (run p ks s).ending ≡ Finished → rack_run p ks s ≡ run p ks s)
 rack_steps = (λ ws k s. (Rattle.rack.proofs.Runs.never_runs_off ws k s, Rattle.rack.proofs.Runs.same_call ws k s), Rattle.rack.proofs.Runs.same-run)
 
 -- after Judge's verdict safe: from any start state and along any list of actions the two runs are the same, and at each of its states the two calls are
-pub rack_after_safe : (ws lemmas gl pl : List ℕ) (n e : ℕ) → (judge ws lemmas gl pl).answer ≡ IsSafe n e → (p : Program) {us : List ℕ} {i : ℕ} → read ws ≡ got p us i → (s : List ℤ) → Start p s
+pub rack_after_safe : (ws lemmas gl pl : List ℕ) (n e : ℕ) → (judge ws lemmas gl pl).answer ≡ Ok (IsSafe n e) → (p : Program) {us : List ℕ} {i : ℕ} → read ws ≡ got p us i → (s : List ℤ) → Start p s
     → (ks : List ℕ) → Each (λ k. k < length p.actions) ks → (rack_run p ks s ≡ run p ks s) × Each (λ t. (k : ℕ) → rack_call ws k t ≡ step_call ws k t) (run p ks s).states
 rack_after_safe ws lemmas gl pl n e h p q = Rattle.rack.proofs.Runs.after-safe ws p q (rw q at (Rattle.judge.proofs.Promised.judge-safe ws lemmas gl pl h))
 

@@ -2,15 +2,16 @@
 --   programs::check(words)             r ≡ check words                                                        crates/programs/src/lib.rt
 --   programs::action_part(words, k)    r ≡ action_part words k, a part of words from word part_place .start on  crates/programs/src/lib.rt
 --   runs::step(words, k, state)        r and the state at exit are those of step_call words k state            crates/runs/src/lib.rt
---   ask::ask(words, lemmas, k)         r ≡ ask words lemmas k; r ≡ Accepted → TrueIn (read words) lemmas k    crates/ask/src/lib.rt
---   judge::judge(words, lemmas, g, p)  r, g and p at exit are those of judge words lemmas g p, and Demand2Of; r ≡ Safe n e → SafeOf (read words)  crates/judge/src/lib.rt
+--   ask::ask(words, lemmas, k)         r ≡ ask words lemmas k; r ≡ Ok Accepted → TrueIn (read words) lemmas k    crates/ask/src/lib.rt
+--   judge::judge(words, lemmas, g, p)  r, g and p at exit are those of judge words lemmas g p, and Demand2Of; r ≡ Ok (Safe n e) → SafeOf (read words)  crates/judge/src/lib.rt
 --   view::successor_of(g, n, a, k, j)  r ≡ viewed g n a k j, and so say View::new and View::successor         crates/view/src/lib.rt
---   show::show(bytes, words, g, p)    r, g and p at exit are those of show bytes words g p; words at exit are words_left r bytes words; r ≡ Answered l m (Safe n e) → SafeShow bytes  crates/show/src/lib.rt
+--   show::show(bytes, words, g, p)    r, g and p at exit are those of show bytes words g p; words at exit are words_left r bytes words; r ≡ Ok a → a.judged ≡ Ok (Safe n e) → SafeShow bytes  crates/show/src/lib.rt
 --   streams::next(way, room, at, a)    r ≡ next way room at a                                                 crates/streams/src/lib.rt
 --   report::report(input, lines)       lines_of input is written; if what was written begins with SAFE, SafeShow input  crates/report/src/lib.rt
 --   exports::bnv_check(..), ..         r is the record of numbers of the call's answer, by check_of, ..; no answer is 0  crates/exports/src/lib.rt
 use mathlib.Core.{Path.{◌≡◌}, Bool.{true}, List.{List, [], ◌∷◌, ◌++◌, map}}
 use Prim.Native.Nat.{ℕ, ◌+◌, ◌%◌, ◌<◌, ◌≤◌}
+use Rattle.std.specs.Prelude.{Result, Ok}
 use lib.{ListN.{length, get_or, take}, IntN.{ℤ, pos}}
 use Rattle.grammar.specs.{Reading.{got}, Programs.{Program}, Grammar.{program}, Encoding.{encode, encode_action, concat}, WellFormed.{WellFormed, Each, Few}}
 use Rattle.programs.specs.Calls.{read, action_part}
@@ -22,8 +23,8 @@ use Rattle.abstraction.specs.{Abstraction.{start, answer, graph}, Faithful.{Fait
 use Rattle.judge.specs.{declared.Judged.TheVariants.{Safe as IsSafe}, Calls.{judge}, Worth.{Drawn, Demand2Of, SafeOf}}
 use Rattle.view.specs.Views.{viewed, edge_viewed}
 use Rattle.little.specs.LittleEndian.{bytes_of, Below}
-use Rattle.show.specs.{declared.Shown.TheVariants.{Answered}, Show.{words_in, show, SafeShow}}
-use Rattle.streams.specs.{declared.Way.{Way}, declared.Answer.{Answer}, declared.Progress.TheVariants.{Going, Whole}, Streams.{most_tries, streamed, WholeOf}}
+use Rattle.show.specs.{declared.Answered.{Answered}, Show.{words_in, show, SafeShow}}
+use Rattle.streams.specs.{declared.Way.{Way}, declared.Progress.TheVariants.{Going, Whole}, Streams.{most_tries, streamed, WholeOf}}
 use Rattle.lines.specs.Text.{text}
 use Rattle.report.specs.Report.{lines_of, Begins}
 use Rattle.worked.specs.Shows.{fade, fade_lemmas, house, incident, fade_program, house_program, incident_program}
@@ -34,7 +35,7 @@ part-of-action = Rattle.programs.proofs.ActionParts.part-is
 
 -- two Step calls in a row, neither of which runs off, are the run of the two actions
 pub steps_are_runs : (ws : List ℕ) (p : Program) {us : List ℕ} {i : ℕ} → read ws ≡ got p us i → (j k : ℕ) (s : List ℤ) → j < length p.actions → k < length p.actions → Inside p s
-    → ((v : ℕ) → (step_call ws j s).answer ≡ RunsOff v → ⊥) → ((v : ℕ) → (step_call ws k (step_call ws j s).state).answer ≡ RunsOff v → ⊥)
+    → ((v : ℕ) → (step_call ws j s).answer ≡ Ok (RunsOff v) → ⊥) → ((v : ℕ) → (step_call ws k (step_call ws j s).state).answer ≡ Ok (RunsOff v) → ⊥)
     → (run p (j ∷ k ∷ []) s).states ≡ s ∷ (step_call ws j s).state ∷ (step_call ws k (step_call ws j s).state).state ∷ []
 steps_are_runs = Rattle.runs.proofs.Steps.two_calls
 
@@ -48,7 +49,7 @@ start-states = (Rattle.worked.proofs.Starts.fade_starts, Rattle.worked.proofs.St
 pub incident_is_unsafe : Safe incident_program → ⊥
 incident_is_unsafe = Rattle.worked.proofs.Starts.incident_unsafe
 
-pub incident-never-safe : (lemmas gl pl : List ℕ) (n e : ℕ) → (judge incident lemmas gl pl).answer ≡ IsSafe n e → ⊥
+pub incident-never-safe : (lemmas gl pl : List ℕ) (n e : ℕ) → (judge incident lemmas gl pl).answer ≡ Ok (IsSafe n e) → ⊥
 incident-never-safe = Rattle.worked.proofs.Starts.incident-never-safe
 
 -- reading the words of a well-formed program gives the program
@@ -86,7 +87,7 @@ pub edges_in_words : (p : Program) → WellFormed p → (ls : List Lemma) (g : G
 edges_in_words = Rattle.judge.proofs.Counted.edges-counted
 
 -- demand 3: Judge's verdict safe says that the program is safe, whatever the lemma list
-pub verdict-safe : (ws lemmas gl pl : List ℕ) (n e : ℕ) → (judge ws lemmas gl pl).answer ≡ IsSafe n e → SafeOf (read ws)
+pub verdict-safe : (ws lemmas gl pl : List ℕ) (n e : ℕ) → (judge ws lemmas gl pl).answer ≡ Ok (IsSafe n e) → SafeOf (read ws)
 verdict-safe ws lemmas gl pl n e h = Rattle.judge.proofs.Promised.judge-safe ws lemmas gl pl h
 
 -- the view over a list that Judge has filled, with its counts, says what the graph says
@@ -109,12 +110,12 @@ pub bytes_of_show : (b : List ℕ) → length b % 4 ≡ 0 → Below 256 b → by
 bytes_of_show = Rattle.show.proofs.Bytes.bytes_of_show
 
 -- demand 3 from a file's bytes
-pub show-safe : (b wl gl pl : List ℕ) (l m n e : ℕ) → (show b wl gl pl).answer ≡ Answered l m (IsSafe n e) → SafeShow b
-show-safe b wl gl pl l m n e = Rattle.show.proofs.Safe.show-safe b gl pl l m n e wl
+pub show-safe : (b wl gl pl : List ℕ) (a : Answered) (n e : ℕ) → (show b wl gl pl).answer ≡ Ok a → a.judged ≡ Ok (IsSafe n e) → SafeShow b
+show-safe b wl gl pl a n e is at = Rattle.show.proofs.Safe.show-safe b gl pl a n e at wl is
 
 -- a stream taken for whole was read or written whole, whatever the calls answered: none failed but with a passing error, few of these, and a read came to the end; one still going has had few answers
-pub whole_stream : (way : Way) (room n : ℕ) (answers : List Answer) → streamed way room (Going 0 0) answers ≡ Whole n → WholeOf way room n answers
+pub whole_stream : (way : Way) (room n : ℕ) (answers : List (Result ℕ ℤ)) → streamed way room (Going 0 0) answers ≡ Whole n → WholeOf way room n answers
 whole_stream = Rattle.streams.proofs.Whole.whole_stream
 
-pub ends_soon : (way : Way) (room done tries : ℕ) (answers : List Answer) → streamed way room (Going 0 0) answers ≡ Going done tries → length answers ≤ room + most_tries
+pub ends_soon : (way : Way) (room done tries : ℕ) (answers : List (Result ℕ ℤ)) → streamed way room (Going 0 0) answers ≡ Going done tries → length answers ≤ room + most_tries
 ends_soon = Rattle.streams.proofs.Whole.ends_soon

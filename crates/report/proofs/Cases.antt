@@ -10,7 +10,9 @@ use lib.Dec.{ltb}
 use borrow.Author.Tests.{lt-ltb, le-ltb}
 use Rattle.records.specs.Records.{graph_words}
 use Rattle.verdict.specs.Verdicts.{path_words}
-use Rattle.show.specs.declared.Shown.{Shown}
+use Rattle.std.specs.Prelude.{Result}
+use Rattle.show.specs.declared.Answered.{Answered}
+use Rattle.show.specs.declared.Unread.{Unread}
 use Rattle.show.specs.Show.{most_bytes, show_words, of_bytes, show, SafeShow}
 use Rattle.lines.specs.Text.{text}
 use Rattle.lines.specs.Puts.{Put}
@@ -20,7 +22,7 @@ use Rattle.report.proofs.SafeLine.{show-safe}
 use Rattle.report.proofs.PathLine.{no_lines, path-line}
 
 -- the lists that are lent are fresh, and there is room for the words
-pub with_fresh : (b wl gl pl : List ℕ) (a : Shown) (q : List ℕ) → show_words ≤ length wl → gl ≡ zeros graph_words → pl ≡ zeros path_words
+pub with_fresh : (b wl gl pl : List ℕ) (a : Result Answered Unread) (q : List ℕ) → show_words ≤ length wl → gl ≡ zeros graph_words → pl ≡ zeros path_words
     → a ≡ (show b wl gl pl).answer → q ≡ (show b wl gl pl).path → shown_lines a q ≡ lines_of b
 unfolding lines_of
 with_fresh b wl gl pl a q h eg ep ea eq = rw (ea, eq, le-ltb (length wl) show_words h, eg, ep)

@@ -21,10 +21,12 @@ use Rattle.judge.specs.Calls.{judge}
 use Rattle.judge.specs.Worth.{OfList, OfRead}
 use Rattle.judge.specs.Shortest.{Least, SafeBefore, Shortest, ShortestOf}
 use Rattle.judge.specs.declared.Judged.{Judged}
-use Rattle.judge.specs.declared.Judged.TheVariants.{MayForbid, MayRunOff, Refused}
+use Rattle.judge.specs.declared.Judged.TheVariants.{MayForbid, MayRunOff}
 use Rattle.judge.specs.declared.Judged.TheVariants.{Safe as IsSafe}
 use Rattle.judge.proofs.Shortest.{judge-shortest}
-use Rattle.show.specs.declared.Shown.TheVariants.{TooLong, OddBytes}
+use Rattle.show.specs.declared.Unread.TheVariants.{TooLong, OddBytes}
+use Rattle.words.specs.declared.Refusal.{Refusal}
+use Rattle.std.specs.Prelude.{Result, Ok, Err}
 use Rattle.show.specs.Show.{most_bytes, words_in, logic_in, lemmas_in, of_words, of_bytes}
 use Rattle.lines.specs.Text.{text, spelled, decimal, field, line}
 use Rattle.report.specs.Report.{zeros, safe_line, forbid_line, run_off_line, refused_line, step_text, path_line, answer_lines, shown_lines, lines_of, Ends, ShortestShow}
@@ -104,19 +106,19 @@ module _ (ws lemmas gl pl js : List ℕ) where
       let same : length (steps_in pl) ≡ length js = omega (arith, tally-ends js (front ++ path_line (steps_in pl)) h, tally_append 0 front (path_line (steps_in pl)), tally-path (tally 0 front) (steps_in pl)) in
       rw (← same) (of_words_lem (Shortest gl pl) (LeastIn (length (steps_in pl))) (λ p ls q. (q.0, q.1, q.2, q.4)) (read ws) lemmas s)
 
-  answer-shortest : (a : Judged) → ShortestOf ws lemmas a gl pl → Ends (path_line js) (answer_lines a pl) → OfRead (LeastIn (length js)) (read ws) lemmas
+  answer-shortest : (a : Result Judged Refusal) → ShortestOf ws lemmas a gl pl → Ends (path_line js) (answer_lines a pl) → OfRead (LeastIn (length js)) (read ws) lemmas
   unfolding answer_lines tally more
-  answer-shortest (IsSafe n e) s h = no_path (safe_line n e) js (tally-line (text "SAFE nodes ") n (text " edges ") e) h
-  answer-shortest (MayForbid k b n e) s h = ended (forbid_line k b) s h
-  answer-shortest (MayRunOff k j v high n e) s h = ended (run_off_line k j v high) s h
-  answer-shortest (Refused r) s h = no_path (refused_line r) js (tally-line (text "REFUSED ") (number r) (text " AT ") (value r)) h
+  answer-shortest (Ok (IsSafe n e)) s h = no_path (safe_line n e) js (tally-line (text "SAFE nodes ") n (text " edges ") e) h
+  answer-shortest (Ok (MayForbid k b n e)) s h = ended (forbid_line k b) s h
+  answer-shortest (Ok (MayRunOff k j v high n e)) s h = ended (run_off_line k j v high) s h
+  answer-shortest (Err r) s h = no_path (refused_line r) js (tally-line (text "REFUSED ") (number r) (text " AT ") (value r)) h
 
 pub path-line : (b js : List ℕ) → Ends (path_line js) (lines_of b) → ShortestShow b (length js)
 unfolding lines_of shown_lines of_bytes tally more
 path-line b js = go (ltb most_bytes (length b)) (eqb (length b % 4) 0)
   where
-    go : (long whole : Bool) → let s = cond long (record { answer = TooLong; graph = zeros graph_words; path = zeros path_words })
-        (cond whole (of_words (words_in b) (zeros graph_words) (zeros path_words)) (record { answer = OddBytes; graph = zeros graph_words; path = zeros path_words }))
+    go : (long whole : Bool) → let s = cond long (record { answer = Err TooLong; graph = zeros graph_words; path = zeros path_words })
+        (cond whole (of_words (words_in b) (zeros graph_words) (zeros path_words)) (record { answer = Err OddBytes; graph = zeros graph_words; path = zeros path_words }))
         in Ends (path_line js) (shown_lines s.answer s.path) → ShortestShow b (length js)
     go true whole h = no_path (text "TOO LONG\n") js refl h
     go false true h =

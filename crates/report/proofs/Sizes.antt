@@ -5,6 +5,7 @@ use mathlib.Core.List.{List, ◌++◌}
 use Prim.Native.Nat.{ℕ, ◌+◌}
 use lib.ListN.{length, length-append}
 use Rattle.lines.specs.Text.{text, field}
+use Rattle.lines.proofs.Puts.{then_put, put-nothing}
 use Rattle.report.specs.Report.{end_text, run_off_line, step_text, path_line}
 
 pub length-run-off : (node action variable : ℕ) (high : Bool)
@@ -19,3 +20,6 @@ length-run-off node action variable high =
 pub length-path : (js : List ℕ) → length (path_line js) ≡ 4 + length (step_text js) + 1
 unfolding path_line
 length-path js = length-append (text "PATH" ++ step_text js) (text "\n") ∙ rw (length-append (text "PATH") (step_text js))
+
+-- what is written one behind the other
+pub ruleset puts = (length-append, length-run-off, length-path, then_put, put-nothing)

@@ -9,7 +9,7 @@
 -- Begins, Ends — a list begins, ends with another
 -- ShortestShow — request 7: the bytes hold a program and lemmas; no walk in their graph from node 0 to a node with a finding has fewer than n steps, and
 --                every run with fewer moves is safe
-use Rattle.std.specs.Prelude.{◌≡◌, Bool, cond, List, [], ◌∷◌, ◌++◌, ℕ, ltb, length, take, replicate}
+use Rattle.std.specs.Prelude.{◌≡◌, Bool, cond, List, [], ◌∷◌, ◌++◌, ℕ, ltb, length, take, replicate, Result, Ok, Err}
 use Rattle.words.specs.declared.Refusal.{Refusal}
 use Rattle.words.specs.Refusals.{number, value}
 use Rattle.programs.specs.Calls.{read}
@@ -20,10 +20,11 @@ use Rattle.verdict.specs.Verdicts.{path_words, steps_in}
 use Rattle.judge.specs.Worth.{OfRead}
 use Rattle.judge.specs.Shortest.{Least, SafeBefore}
 use Rattle.judge.specs.declared.Judged.{Judged}
-use Rattle.judge.specs.declared.Judged.TheVariants.{MayForbid, MayRunOff, Refused}
+use Rattle.judge.specs.declared.Judged.TheVariants.{MayForbid, MayRunOff}
 use Rattle.judge.specs.declared.Judged.TheVariants.{Safe as IsSafe}
-use Rattle.show.specs.declared.Shown.{Shown}
-use Rattle.show.specs.declared.Shown.TheVariants.{WordsShort, TooLong, OddBytes, Answered}
+use Rattle.show.specs.declared.Answered.{Answered}
+use Rattle.show.specs.declared.Unread.{Unread}
+use Rattle.show.specs.declared.Unread.TheVariants.{WordsShort, TooLong, OddBytes}
 use Rattle.show.specs.Show.{words_in, logic_in, lemmas_in, of_bytes}
 use Rattle.lines.specs.Text.{text, field, line}
 
@@ -57,18 +58,18 @@ step_text (j ∷ js) = field (text " ") j ++ step_text js
 unfoldable pub path_line : List ℕ → List ℕ
 path_line js = text "PATH" ++ step_text js ++ text "\n"
 
-unfoldable pub answer_lines : Judged → List ℕ → List ℕ
-answer_lines (IsSafe nodes edges) path = safe_line nodes edges
-answer_lines (MayForbid node bad nodes edges) path = forbid_line node bad ++ path_line (steps_in path)
-answer_lines (MayRunOff node action variable high nodes edges) path = run_off_line node action variable high ++ path_line (steps_in path)
-answer_lines (Refused r) path = refused_line r
+unfoldable pub answer_lines : Result Judged Refusal → List ℕ → List ℕ
+answer_lines (Ok (IsSafe nodes edges)) path = safe_line nodes edges
+answer_lines (Ok (MayForbid node bad nodes edges)) path = forbid_line node bad ++ path_line (steps_in path)
+answer_lines (Ok (MayRunOff node action variable high nodes edges)) path = run_off_line node action variable high ++ path_line (steps_in path)
+answer_lines (Err r) path = refused_line r
 
--- The program lends enough words, so the first is never printed.
-unfoldable pub shown_lines : Shown → List ℕ → List ℕ
-shown_lines WordsShort path = []
-shown_lines TooLong path = text "TOO LONG\n"
-shown_lines OddBytes path = text "ODD BYTES\n"
-shown_lines (Answered logic lemmas a) path = answer_lines a path
+-- The program lends enough words, so that the first Err is never printed.
+unfoldable pub shown_lines : Result Answered Unread → List ℕ → List ℕ
+shown_lines (Ok a) path = answer_lines a.judged path
+shown_lines (Err WordsShort) path = []
+shown_lines (Err TooLong) path = text "TOO LONG\n"
+shown_lines (Err OddBytes) path = text "ODD BYTES\n"
 
 unfoldable pub lines_of : List ℕ → List ℕ
 lines_of b = let s = of_bytes b (zeros graph_words) (zeros path_words) in shown_lines s.answer s.path

@@ -12,7 +12,7 @@ ghost use Rattle.report.specs.Report.{step_text, path_line, answer_lines, shown_
 ghost use Rattle.report.specs.Report.{Begins, Ends, ShortestShow};
 
 use judge::Judged;
-use show::Shown;
+use show::{Answered, Unread};
 use words::{Kind, Refusal};
 
 // The end of a range.
@@ -20,22 +20,20 @@ fn put_end(out: &mut [u8], at: usize, high: bool) -> usize
     requires { at + length (end_text high) ≤ length out.old }
     ensures { Put out.old at (end_text high) out.new result }
 {
-    if high {
-        lines::put_bytes(&mut *out, at, b" high\n")
-    } else {
-        lines::put_bytes(&mut *out, at, b" low\n")
-    }
+    let text: &[u8] = if high { b" high\n" } else { b" low\n" };
+    lines::put_bytes(out, at, text)
 }
 
 // RUNOFF node N action A variable V low, or high
+#[tactic(auto, using(crate::proofs::Sizes::puts))]
 fn put_run_off(out: &mut [u8], node: usize, action: usize, variable: usize, high: bool) -> usize
     requires { length (run_off_line node action variable high) ≤ length out.old }
     ensures { Put out.old 0 (run_off_line node action variable high) out.new result }
 {
-    let at = lines::put_field(&mut *out, 0, b"RUNOFF node ", node);
-    let next = lines::put_field(&mut *out, at, b" action ", action);
-    let last = lines::put_field(&mut *out, next, b" variable ", variable);
-    put_end(&mut *out, last, high)
+    let at = lines::put_field(out, 0, b"RUNOFF node ", node);
+    let next = lines::put_field(out, at, b" action ", action);
+    let last = lines::put_field(out, next, b" variable ", variable);
+    put_end(out, last, high)
 }
 
 // REFUSED R AT P
@@ -43,9 +41,13 @@ fn put_refused(out: &mut [u8], why: Refusal) -> usize
     requires { length (refused_line why) ≤ length out.old }
     ensures { Put out.old 0 (refused_line why) out.new result }
 {
-    let number = words::number_of(why) as usize;
-    let value = words::value_of(why);
-    lines::put_line(&mut *out, b"REFUSED ", number, b" AT ", value)
+    lines::put_line(
+        out,
+        b"REFUSED ",
+        why.number() as usize,
+        b" AT ",
+        why.value(),
+    )
 }
 
 // Each action of the path after a space.
@@ -54,54 +56,50 @@ fn put_steps(out: &mut [u8], at: usize, path: &[u32]) -> usize
     ensures { Put out.old at (step_text (steps_in path.now)) out.new result }
 {
     let mut place = at;
-    let mut i: usize = 0;
-    while i < path.len() {
-        let w = path[i];
-        if !Kind::of(w).is(Kind::STEP) {
+    for w in path {
+        if Kind::of(*w) != Kind::STEP {
             return place;
         }
-        place = lines::put_field(&mut *out, place, b" ", words::count(w));
-        i += 1;
+        place = lines::put_field(out, place, b" ", words::count(*w));
     }
     place
 }
 
 // PATH and its actions
+#[tactic(auto, using(crate::proofs::Sizes::puts))]
 fn put_path(out: &mut [u8], at: usize, path: &[u32]) -> usize
     requires { at + length (path_line (steps_in path.now)) ≤ length out.old }
     ensures { Put out.old at (path_line (steps_in path.now)) out.new result }
 {
-    let next = lines::put_bytes(&mut *out, at, b"PATH");
-    let last = put_steps(&mut *out, next, path);
-    lines::put_bytes(&mut *out, last, b"\n")
+    let next = lines::put_bytes(out, at, b"PATH");
+    let last = put_steps(out, next, path);
+    lines::put_bytes(out, last, b"\n")
 }
 
 // The lines of an answer.
-fn put_answer(out: &mut [u8], answer: Judged, path: &[u32]) -> usize
+#[tactic(auto, using(crate::proofs::Sizes::puts), unfolding(crate::specs::Report::answer_lines))]
+fn put_answer(out: &mut [u8], answer: Result<Judged, Refusal>, path: &[u32]) -> usize
     requires { length (answer_lines answer path.now) ≤ length out.old }
     ensures { Put out.old 0 (answer_lines answer path.now) out.new result }
 {
     match answer {
-        Judged::Safe(nodes, edges) => lines::put_line(
-            &mut *out,
-            b"SAFE nodes ",
-            nodes,
-            b" edges ",
-            edges,
-        ),
-        Judged::MayForbid(node, bad, _, _) => {
-            let at = lines::put_line(&mut *out, b"FORBID node ", node, b" bad ", bad);
-            put_path(&mut *out, at, path)
+        Ok(Judged::Safe(nodes, edges)) => {
+            lines::put_line(out, b"SAFE nodes ", nodes, b" edges ", edges)
         }
-        Judged::MayRunOff(node, action, variable, high, _, _) => {
-            let at = put_run_off(&mut *out, node, action, variable, high);
-            put_path(&mut *out, at, path)
+        Ok(Judged::MayForbid(node, bad, _, _)) => {
+            let at = lines::put_line(out, b"FORBID node ", node, b" bad ", bad);
+            put_path(out, at, path)
         }
-        Judged::Refused(why) => put_refused(&mut *out, why),
+        Ok(Judged::MayRunOff(node, action, variable, high, _, _)) => {
+            let at = put_run_off(out, node, action, variable, high);
+            put_path(out, at, path)
+        }
+        Err(why) => put_refused(out, why),
     }
 }
 
 // A fresh graph list. The contract names the list, so that no caller sees its zeros.
+#[tactic(auto, unfolding(crate::specs::Report::zeros))]
 fn graph_list() -> [u32; records::ROOM]
     ensures { (graph_words ≡ length result) × (result ≡ zeros graph_words) }
 {
@@ -109,6 +107,7 @@ fn graph_list() -> [u32; records::ROOM]
 }
 
 // A fresh path list.
+#[tactic(auto, unfolding(crate::specs::Report::zeros))]
 fn path_list() -> [u32; verdict::PATH_ROOM]
     ensures { (path_words ≡ length result) × (result ≡ zeros path_words) }
 {
@@ -116,15 +115,16 @@ fn path_list() -> [u32; verdict::PATH_ROOM]
 }
 
 // The lines of an answer for a show's bytes.
-fn put_shown(out: &mut [u8], shown: Shown, path: &[u32]) -> usize
+#[tactic(auto, using(crate::proofs::Sizes::puts), unfolding(crate::specs::Report::shown_lines))]
+fn put_shown(out: &mut [u8], shown: Result<Answered, Unread>, path: &[u32]) -> usize
     requires { length (shown_lines shown path.now) ≤ length out.old }
     ensures { Put out.old 0 (shown_lines shown path.now) out.new result }
 {
     match shown {
-        Shown::WordsShort => 0,
-        Shown::TooLong => lines::put_bytes(&mut *out, 0, b"TOO LONG\n"),
-        Shown::OddBytes => lines::put_bytes(&mut *out, 0, b"ODD BYTES\n"),
-        Shown::Answered(_, _, answer) => put_answer(&mut *out, answer, path),
+        Ok(answer) => put_answer(out, answer.judged, path),
+        Err(Unread::WordsShort) => 0,
+        Err(Unread::TooLong) => lines::put_bytes(out, 0, b"TOO LONG\n"),
+        Err(Unread::OddBytes) => lines::put_bytes(out, 0, b"ODD BYTES\n"),
     }
 }
 
@@ -146,5 +146,5 @@ pub fn report(input: &[u8], lines: &mut [u8]) -> usize
     let mut graph = graph_list();
     let mut path = path_list();
     let shown = show::show(input, &mut words, &mut graph, &mut path);
-    put_shown(&mut *lines, shown, &path)
+    put_shown(lines, shown, &path)
 }

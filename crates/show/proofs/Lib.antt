@@ -1,4 +1,3 @@
 pub mod Logic
 pub mod Bytes
 pub mod Safe
-pub mod Cases

@@ -1,25 +1,55 @@
--- Where the logic ends: the words passed and the logic that is left are the logic.
-use mathlib.Core.Path.{◌≡◌}
-use mathlib.Core.Bool.{true, false}
-use mathlib.Core.List.{List}
-use Prim.Native.Nat.{ℕ, suc, ◌+◌, ◌<◌, ◌≤◌}
-use native.Mathlib.Numerals.{add-one}
-use native.Mathlib.Omega.{arith}
-use lib.Dec.{eqb}
-use lib.ListN.{length, drop, get_or, drop_of_length-le}
-use lib.Seq.{drop-cons}
+-- Where the logic ends: behind the first END, or with the last word.
+use Rattle.std.proofs.Common.{◌≡◌, ◌≤◌, ◌<◌, length, ℕ, suc, ◌+◌, Bool, true, false, cond, List, [], ◌∷◌, eqb, ltb, Option, Some, None, refl, arith}
+use Rattle.std.proofs.lemmas.Bool.Decides.{nat_tests}
+use Rattle.std.specs.List.{position_or_len}
 use Rattle.words.specs.Words.{kind_of, END}
 use Rattle.show.specs.Show.{logic_length}
 
-module _ (ws : List ℕ) (i n : ℕ) (inv : i + logic_length (drop i ws) ≡ n) where
-  pub ends-here : i < length ws → eqb (kind_of (get_or ws i 0)) END ≡ true → i + 1 ≡ n
-  unfolding logic_length
-  ends-here h e = let one : logic_length (drop i ws) ≡ 1 = rw (drop-cons ws i 0 h, e) in omega arith
+abbrev pub ends : ℕ → Bool
+ends w = eqb (kind_of w) END
 
-  pub goes_on : i < length ws → eqb (kind_of (get_or ws i 0)) END ≡ false → (i + 1) + logic_length (drop (i + 1) ws) ≡ n
-  unfolding logic_length
-  goes_on h e = let more : logic_length (drop i ws) ≡ suc (logic_length (drop (i + 1) ws)) = rw (add-one i, drop-cons ws i 0 h, e) in omega arith
+abbrev pub first_end : List ℕ → ℕ
+first_end = position_or_len ends
 
-  pub ends_there : length ws ≤ i → i ≡ n
+module _ (w : ℕ) (ws : List ℕ) where
+  here : ends w ≡ true → (first_end (w ∷ ws) ≡ 0) × (logic_length (w ∷ ws) ≡ 1)
   unfolding logic_length
-  ends_there h = let none : logic_length (drop i ws) ≡ 0 = rw (drop_of_length-le ws {i = i} h) in omega arith
+  here e = rw e (refl, refl)
+
+  there : ends w ≡ false → (first_end (w ∷ ws) ≡ 1 + first_end ws) × (logic_length (w ∷ ws) ≡ suc (logic_length ws))
+  unfolding logic_length
+  there e = rw e (refl, refl)
+
+  by_word : {X : Type 0} (b : Bool) → ends w ≡ b → (ends w ≡ true → X) → (ends w ≡ false → X) → X
+  by_word true e f g = f e
+  by_word false e f g = g e
+
+at_end : (ws : List ℕ) → first_end ws < length ws → logic_length ws ≡ first_end ws + 1
+at_end [] h = absurd (omega arith)
+at_end (w ∷ ws) h =
+    by_word w ws (ends w) refl
+    (λ e. let f = here w ws e in omega arith)
+    (λ e. let f = there w ws e in let more = at_end ws (omega arith) in omega arith)
+
+without : (ws : List ℕ) → length ws ≤ first_end ws → logic_length ws ≡ length ws
+unfolding logic_length
+without [] h = refl
+without (w ∷ ws) h =
+    by_word w ws (ends w) refl
+    (λ e. let f = here w ws e in absurd (omega arith))
+    (λ e. let f = there w ws e in let more = without ws (omega arith) in omega arith)
+
+found : {o : Option ℕ} {p n i : ℕ} → o ≡ cond (ltb p n) (Some p) None → o ≡ Some i → (p ≡ i) × (p < n)
+found e f = grind (arith, nat_tests)
+
+missed : {o : Option ℕ} {p n : ℕ} → o ≡ cond (ltb p n) (Some p) None → o ≡ None → n ≤ p
+missed e f = grind (arith, nat_tests)
+
+abbrev pub First : List ℕ → Option ℕ → Type 0
+First ws o = o ≡ cond (ltb (first_end ws) (length ws)) (Some (first_end ws)) None
+
+pub with_end : (ws : List ℕ) {o : Option ℕ} {i : ℕ} → First ws o → o ≡ Some i → (i + 1 ≡ logic_length ws) × (i + 1 ≤ length ws)
+with_end ws {i = i} e f = let at : (first_end ws ≡ i) × (first_end ws < length ws) = found e f in (omega (arith, at_end ws at.1), omega arith)
+
+pub with_none : (ws : List ℕ) {o : Option ℕ} → First ws o → o ≡ None → (length ws ≡ logic_length ws) × (length ws ≤ length ws)
+with_none ws e f = (omega (arith, without ws (missed e f)), omega arith)

@@ -9,7 +9,7 @@
 -- show                          — the same where the words' list is long enough
 -- words_left                    — the words' list at exit: an answer of Judge leaves the show's words at its front, any other leaves it
 -- SafeShow                      — the bytes hold the logic of a program, and it is safe
-use Rattle.std.specs.Prelude.{◌≡◌, cond, List, [], ◌∷◌, ◌++◌, ℕ, suc, ◌/◌, ◌%◌, eqb, ltb, length, take, drop}
+use Rattle.std.specs.Prelude.{◌≡◌, cond, List, [], ◌∷◌, ◌++◌, ℕ, suc, ◌/◌, ◌%◌, eqb, ltb, length, take, drop, Result, Ok, Err}
 use Rattle.words.specs.Words.{kind_of, END}
 use Rattle.grammar.specs.Reading.{got}
 use Rattle.grammar.specs.Programs.{Program}
@@ -17,8 +17,9 @@ use Rattle.programs.specs.Calls.{read}
 use Rattle.runs.specs.Runs.{Safe}
 use Rattle.judge.specs.Calls.{judge}
 use Rattle.little.specs.LittleEndian.{words_of}
-use Rattle.show.specs.declared.Shown.{Shown}
-use Rattle.show.specs.declared.Shown.TheVariants.{WordsShort, TooLong, OddBytes, Answered}
+use Rattle.show.specs.declared.Answered.{Answered}
+use Rattle.show.specs.declared.Unread.{Unread}
+use Rattle.show.specs.declared.Unread.TheVariants.{WordsShort, TooLong, OddBytes}
 
 abbrev pub most_bytes : ℕ
 most_bytes = 65536
@@ -42,28 +43,30 @@ lemmas_in ws = drop (logic_length ws) ws
 
 -- ---- the answer
 pub record Showing : Type 0 where
-  pub answer : Shown
+  pub answer : Result Answered Unread
   pub graph : List ℕ
   pub path : List ℕ
 
 abbrev pub of_words : List ℕ → List ℕ → List ℕ → Showing
 of_words ws gl pl =
     let j = judge (logic_in ws) (lemmas_in ws) gl pl in
-    record { answer = Answered (length (logic_in ws)) (length (lemmas_in ws)) j.answer; graph = j.graph; path = j.path }
+    record {
+      answer = Ok (record { logic = length (logic_in ws); lemmas = length (lemmas_in ws); judged = j.answer });
+      graph = j.graph;
+      path = j.path;
+    }
 
 unfoldable pub of_bytes : List ℕ → List ℕ → List ℕ → Showing
 of_bytes b gl pl =
-    cond (ltb most_bytes (length b)) (record { answer = TooLong; graph = gl; path = pl })
-    (cond (eqb (length b % 4) 0) (of_words (words_in b) gl pl) (record { answer = OddBytes; graph = gl; path = pl }))
+    cond (ltb most_bytes (length b)) (record { answer = Err TooLong; graph = gl; path = pl })
+    (cond (eqb (length b % 4) 0) (of_words (words_in b) gl pl) (record { answer = Err OddBytes; graph = gl; path = pl }))
 
 abbrev pub show : List ℕ → List ℕ → List ℕ → List ℕ → Showing
-show b wl gl pl = cond (ltb (length wl) show_words) (record { answer = WordsShort; graph = gl; path = pl }) (of_bytes b gl pl)
+show b wl gl pl = cond (ltb (length wl) show_words) (record { answer = Err WordsShort; graph = gl; path = pl }) (of_bytes b gl pl)
 
-abbrev pub words_left : Shown → List ℕ → List ℕ → List ℕ
-words_left (Answered l m a) b wl = words_in b ++ drop (length (words_in b)) wl
-words_left WordsShort b wl = wl
-words_left TooLong b wl = wl
-words_left OddBytes b wl = wl
+abbrev pub words_left : Result Answered Unread → List ℕ → List ℕ → List ℕ
+words_left (Ok a) b wl = words_in b ++ drop (length (words_in b)) wl
+words_left (Err why) b wl = wl
 
 -- ---- what it is worth
 pub record SafeShow (b : List ℕ) : Type 0 where

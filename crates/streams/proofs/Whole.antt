@@ -12,14 +12,12 @@ use mathlib.Core.Logic.{inl, inr}
 use Prim.Native.Nat.{ℕ, suc, ◌+◌, ◌≤◌, ◌<◌}
 use native.Mathlib.Omega.{arith}
 use lib.Dec.{T, eqb, ltb}
-use lib.IntN.{ℤ}
 use lib.ListN.{length}
 use borrow.Author.Tests.{ltb-true, ltb-false, eqb-true, eqb-false}
 use Rattle.streams.specs.Streams.{most_tries, passing, at_nothing, after_moved, after_failed, next, streamed, sum_of, passed, Sound, EndsWell, WholeOf}
 use Rattle.streams.specs.declared.Way.{Way}
 use Rattle.streams.specs.declared.Way.TheVariants.{Read, Write}
-use Rattle.streams.specs.declared.Answer.{Answer}
-use Rattle.streams.specs.declared.Answer.TheVariants.{Moved, Failed}
+use Rattle.std.specs.Prelude.{ℤ, Result, Ok, Err}
 use Rattle.streams.specs.declared.Progress.{Progress}
 use Rattle.streams.specs.declared.Progress.TheVariants.{Going, Whole, Broken}
 
@@ -34,22 +32,13 @@ passes : (b : Bool) → T b → b ≡ true
 passes true t = refl
 passes false t = absurd t
 
-whole_is_not_broken : {X : Type 0} {n : ℕ} → Broken ≡ Whole n → X
-whole_is_not_broken e = absurd (let z : ◌≡◌ {A = ℕ} 0 1 = cc in omega arith)
-
-going_is_not_whole : {X : Type 0} {d t n : ℕ} → Going d t ≡ Whole n → X
-going_is_not_whole e = absurd (let z : ◌≡◌ {A = ℕ} 0 1 = cc in omega arith)
-
-going_is_not_broken : {X : Type 0} {d t : ℕ} → Broken ≡ Going d t → X
-going_is_not_broken e = absurd (let z : ◌≡◌ {A = ℕ} 0 1 = cc in omega arith)
-
 not_going : {X : Type 0} (way : Way) (done : ℕ) {d t : ℕ} → Going d t ≡ at_nothing way done → X
-not_going Read done e = going_is_not_whole e
-not_going Write done e = going_is_not_broken (sym e)
+not_going Read done e = cc
+not_going Write done e = cc
 
 is-done : (way : Way) {n done : ℕ} → Whole n ≡ at_nothing way done → n ≡ done
 is-done Read e = cc
-is-done Write e = whole_is_not_broken (sym e)
+is-done Write e = cc
 
 standing : {X : Type 0} (p : Progress) → ((d t : ℕ) → p ≡ Going d t → X) → ((n : ℕ) → p ≡ Whole n → X) → (p ≡ Broken → X) → X
 standing (Going d t) f g h = f d t refl
@@ -57,20 +46,20 @@ standing (Whole n) f g h = g n refl
 standing Broken f g h = h refl
 
 module _ (way : Way) (room : ℕ) where
-  stays-broken : (answers : List Answer) → streamed way room Broken answers ≡ Broken
+  stays-broken : (answers : List (Result ℕ ℤ)) → streamed way room Broken answers ≡ Broken
   unfolding streamed next
   stays-broken [] = refl
   stays-broken (answer ∷ answers) = stays-broken answers
 
-  nothing-behind : (m n : ℕ) (answers : List Answer) → streamed way room (Whole m) answers ≡ Whole n → (answers ≡ []) × (m ≡ n)
+  nothing-behind : (m n : ℕ) (answers : List (Result ℕ ℤ)) → streamed way room (Whole m) answers ≡ Whole n → (answers ≡ []) × (m ≡ n)
   unfolding streamed next
   nothing-behind m n [] e = (refl, cc)
-  nothing-behind m n (answer ∷ answers) e = whole_is_not_broken (sym (stays-broken answers) ∙ e)
+  nothing-behind m n (answer ∷ answers) e = cc (stays-broken answers)
 
-  not-again : {X : Type 0} {d t : ℕ} (m : ℕ) (answers : List Answer) → streamed way room (Whole m) answers ≡ Going d t → X
+  not-again : {X : Type 0} {d t : ℕ} (m : ℕ) (answers : List (Result ℕ ℤ)) → streamed way room (Whole m) answers ≡ Going d t → X
   unfolding streamed next
-  not-again m [] e = going_is_not_whole (sym e)
-  not-again m (answer ∷ answers) e = going_is_not_broken (sym (stays-broken answers) ∙ e)
+  not-again m [] e = cc
+  not-again m (answer ∷ answers) e = cc (stays-broken answers)
 
   -- A step by its tests.
   pub after-failed : {X : Type 0} (done tries : ℕ) (error : ℤ) (p : Progress) → after_failed done tries error ≡ p
@@ -101,92 +90,92 @@ module _ (way : Way) (room : ℕ) where
       going (omega arith) (omega arith) (sym e ∙ rw (fits, less, some)))))
 
 module _ (room n : ℕ) where
-  full-ends : (way : Way) (answers : List Answer) → n ≡ room → EndsWell way room n answers
+  full-ends : (way : Way) (answers : List (Result ℕ ℤ)) → n ≡ room → EndsWell way room n answers
   full-ends Read answers e = inl e
   full-ends Write answers e = e
 
-  further : (way : Way) (answer : Answer) (answers : List Answer) → EndsWell way room n answers → EndsWell way room n (answer ∷ answers)
+  further : (way : Way) (answer : Result ℕ ℤ) (answers : List (Result ℕ ℤ)) → EndsWell way room n answers → EndsWell way room n (answer ∷ answers)
   further Read answer answers (inl e) = inl e
-  further Read answer answers (inr (front, e)) = inr (answer ∷ front, ap (λ (l : List Answer). answer ∷ l) e)
+  further Read answer answers (inr (front, e)) = inr (answer ∷ front, ap (λ (l : List (Result ℕ ℤ)). answer ∷ l) e)
   further Write answer answers e = e
 
-  at-nothing : (way : Way) (done k : ℕ) (answers : List Answer) → k ≡ 0 → streamed way room (at_nothing way done) answers ≡ Whole n
-      → (answers ≡ []) × (done ≡ n) × EndsWell way room n (Moved k ∷ answers)
+  at-nothing : (way : Way) (done k : ℕ) (answers : List (Result ℕ ℤ)) → k ≡ 0 → streamed way room (at_nothing way done) answers ≡ Whole n
+      → (answers ≡ []) × (done ≡ n) × EndsWell way room n (Ok k ∷ answers)
   at-nothing Read done k answers z e =
       let b = nothing-behind Read room done n answers e in
       (b.0, b.1, inr ([], rw (z, b.0)))
-  at-nothing Write done k answers z e = whole_is_not_broken (sym (stays-broken Write room answers) ∙ e)
+  at-nothing Write done k answers z e = cc (stays-broken Write room answers)
 
-record From (way : Way) (room done tries n : ℕ) (answers : List Answer) : Type 0 where
+record From (way : Way) (room done tries n : ℕ) (answers : List (Result ℕ ℤ)) : Type 0 where
   sound : Sound answers
   few : tries + passed answers ≤ most_tries
   sum : n ≡ done + sum_of answers
   ends : EndsWell way room n answers
 
-nothing-more : (answers : List Answer) → answers ≡ [] → Sound answers × (passed answers ≡ 0) × (sum_of answers ≡ 0)
+nothing-more : (answers : List (Result ℕ ℤ)) → answers ≡ [] → Sound answers × (passed answers ≡ 0) × (sum_of answers ≡ 0)
 unfolding Sound passed sum_of
 nothing-more answers e = rw e (tt, refl, refl)
 
 module _ (way : Way) (room : ℕ) where
-  from : (done tries n : ℕ) (answers : List Answer) → tries ≤ most_tries → streamed way room (Going done tries) answers ≡ Whole n → From way room done tries n answers
+  from : (done tries n : ℕ) (answers : List (Result ℕ ℤ)) → tries ≤ most_tries → streamed way room (Going done tries) answers ≡ Whole n → From way room done tries n answers
   unfolding streamed next sum_of passed Sound
-  from done tries n [] h e = going_is_not_whole e
-  from done tries n (Failed error ∷ answers) h e =
+  from done tries n [] h e = cc
+  from done tries n (Err error ∷ answers) h e =
       after-failed way room done tries error _ refl
       (λ pass less is.
       let r = from done (suc tries) n answers less (rw is at e) in
-      record { sound = (pass, r.sound); few = rw (passes (passing error) pass) (omega (arith, r.few)); sum = r.sum; ends = further room n way (Failed error) answers r.ends })
-      (λ is. whole_is_not_broken (sym (stays-broken way room answers) ∙ rw is at e))
-  from done tries n (Moved k ∷ answers) h e =
+      record { sound = (pass, r.sound); few = rw (passes (passing error) pass) (omega (arith, r.few)); sum = r.sum; ends = further room n way (Err error) answers r.ends })
+      (λ is. cc (stays-broken way room answers))
+  from done tries n (Ok k ∷ answers) h e =
       after-moved way room done tries k _ refl
       (λ full is.
       let b = nothing-behind way room room n answers (rw is at e) in
       let m = nothing-more answers b.0 in
-      record { sound = m.0; few = omega (arith, m.1); sum = omega (arith, m.2, b.1); ends = full-ends room n way (Moved k ∷ answers) (sym b.1) })
+      record { sound = m.0; few = omega (arith, m.1); sum = omega (arith, m.2, b.1); ends = full-ends room n way (Ok k ∷ answers) (sym b.1) })
       (λ none is.
       let b = at-nothing room n way done k answers none (rw is at e) in
       let m = nothing-more answers b.0 in
       record { sound = m.0; few = omega (arith, m.1); sum = omega (arith, m.2, b.1); ends = b.2 })
       (λ some less is.
       let r = from (done + k) tries n answers h (rw is at e) in
-      record { sound = r.sound; few = r.few; sum = omega (arith, r.sum); ends = further room n way (Moved k) answers r.ends })
-      (λ is. whole_is_not_broken (sym (stays-broken way room answers) ∙ rw is at e))
+      record { sound = r.sound; few = r.few; sum = omega (arith, r.sum); ends = further room n way (Ok k) answers r.ends })
+      (λ is. cc (stays-broken way room answers))
 
   -- Where a stream is whole, no call among its answers failed, but for at most 500 that were told to come again; its bytes are all those that were
   -- moved; and its end is a full room or, for a read, an answer of no byte.
-  pub whole_stream : (n : ℕ) (answers : List Answer) → streamed way room (Going 0 0) answers ≡ Whole n → WholeOf way room n answers
+  pub whole_stream : (n : ℕ) (answers : List (Result ℕ ℤ)) → streamed way room (Going 0 0) answers ≡ Whole n → WholeOf way room n answers
   whole_stream n answers e =
       let r = from 0 0 n answers (omega arith) e in
       record { sound = r.sound; few = omega (arith, r.few); sum = omega (arith, r.sum); ends = r.ends }
 
   -- An answer that leaves a stream going moved a byte or used up a try, and there are so many of both.
-  pub closer : (done tries done' tries' : ℕ) (answer : Answer) → done ≤ room → tries ≤ most_tries → next way room (Going done tries) answer ≡ Going done' tries'
+  pub closer : (done tries done' tries' : ℕ) (answer : Result ℕ ℤ) → done ≤ room → tries ≤ most_tries → next way room (Going done tries) answer ≡ Going done' tries'
       → (done + tries < done' + tries') × (done' ≤ room) × (tries' ≤ most_tries)
   unfolding next
-  closer done tries done' tries' (Failed error) h g e =
+  closer done tries done' tries' (Err error) h g e =
       after-failed way room done tries error _ e
       (λ pass less is. let d : done' ≡ done = cc in let t : tries' ≡ suc tries = cc in (omega arith, omega arith, omega arith))
-      (λ is. going_is_not_broken (sym is))
-  closer done tries done' tries' (Moved k) h g e =
+      (λ is. cc)
+  closer done tries done' tries' (Ok k) h g e =
       after-moved way room done tries k _ e
-      (λ full is. going_is_not_whole is)
+      (λ full is. cc)
       (λ none is. not_going way done is)
       (λ some less is. let d : done' ≡ done + k = cc in let t : tries' ≡ tries = cc in (omega arith, omega arith, omega arith))
-      (λ is. going_is_not_broken (sym is))
+      (λ is. cc)
 
   -- A stream that is whole fits its room.
-  pub within : (done tries n : ℕ) (answer : Answer) → done ≤ room → next way room (Going done tries) answer ≡ Whole n → n ≤ room
+  pub within : (done tries n : ℕ) (answer : Result ℕ ℤ) → done ≤ room → next way room (Going done tries) answer ≡ Whole n → n ≤ room
   unfolding next
-  within done tries n (Failed error) h e =
-      after-failed way room done tries error _ e (λ pass less is. going_is_not_whole (sym is)) (λ is. whole_is_not_broken (sym is))
-  within done tries n (Moved k) h e =
+  within done tries n (Err error) h e =
+      after-failed way room done tries error _ e (λ pass less is. cc) (λ is. cc)
+  within done tries n (Ok k) h e =
       after-moved way room done tries k _ e
       (λ full is. let z : n ≡ room = cc in omega arith)
       (λ none is. let z : n ≡ done = is-done way is in omega arith)
-      (λ some less is. going_is_not_whole (sym is))
-      (λ is. whole_is_not_broken (sym is))
+      (λ some less is. cc)
+      (λ is. cc)
 
-  so_far : (done tries done' tries' : ℕ) (answers : List Answer) → done ≤ room → tries ≤ most_tries → streamed way room (Going done tries) answers ≡ Going done' tries'
+  so_far : (done tries done' tries' : ℕ) (answers : List (Result ℕ ℤ)) → done ≤ room → tries ≤ most_tries → streamed way room (Going done tries) answers ≡ Going done' tries'
       → (length answers + (done + tries) ≤ done' + tries') × (done' ≤ room) × (tries' ≤ most_tries)
   unfolding streamed
   so_far done tries done' tries' [] h g e =
@@ -198,8 +187,8 @@ module _ (way : Way) (room : ℕ) where
       let r = so_far done₁ tries₁ done' tries' answers c.1 c.2 (rw is at e) in
       (omega (arith, c.0, r.0), r.1, r.2))
       (λ n is. not-again way room n answers (rw is at e))
-      (λ is. going_is_not_broken (sym (stays-broken way room answers) ∙ rw is at e))
+      (λ is. cc (stays-broken way room answers))
 
   -- A stream that is still going has had no more answers than bytes and tries: it ends after 500 answers more than it has room.
-  pub ends_soon : (done tries : ℕ) (answers : List Answer) → streamed way room (Going 0 0) answers ≡ Going done tries → length answers ≤ room + most_tries
+  pub ends_soon : (done tries : ℕ) (answers : List (Result ℕ ℤ)) → streamed way room (Going 0 0) answers ≡ Going done tries → length answers ≤ room + most_tries
   ends_soon done tries answers e = let s = so_far 0 0 done tries answers (omega arith) (omega arith) e in omega (arith, s.0, s.1, s.2)

@@ -12,11 +12,10 @@
 -- Closes                    — the last answer moved no byte
 -- EndsWell                  — the room is full, or, of a read, the last answer moved no byte
 -- WholeOf                   — what the answers were, if a stream of so many bytes is whole
-use Rattle.std.specs.Prelude.{◌≡◌, Bool, false, ◌||◌, cond, List, [], ◌∷◌, ◌++◌, ◌⊎◌, ℕ, suc, ◌+◌, ◌≤◌, T, eqb, ltb, ℤ, pos, negsuc}
+use Rattle.std.specs.Prelude.{◌≡◌, Bool, false, ◌||◌, cond, List, [], ◌∷◌, ◌++◌, ◌⊎◌, ℕ, suc, ◌+◌, ◌≤◌, T, eqb, ltb}
+use Rattle.std.specs.Prelude.{ℤ, pos, negsuc, Result, Ok, Err}
 use Rattle.streams.specs.declared.Way.{Way}
 use Rattle.streams.specs.declared.Way.TheVariants.{Read, Write}
-use Rattle.streams.specs.declared.Answer.{Answer}
-use Rattle.streams.specs.declared.Answer.TheVariants.{Moved, Failed}
 use Rattle.streams.specs.declared.Progress.{Progress}
 use Rattle.streams.specs.declared.Progress.TheVariants.{Going, Whole, Broken}
 
@@ -27,9 +26,9 @@ abbrev pub passing : ℤ → Bool
 passing (pos e) = eqb e 4 || eqb e 11
 passing (negsuc e) = false
 
-abbrev pub answer_of : ℤ → ℤ → Answer
-answer_of (pos n) error = Moved n
-answer_of (negsuc n) error = Failed error
+abbrev pub answer_of : ℤ → ℤ → Result ℕ ℤ
+answer_of (pos n) error = Ok n
+answer_of (negsuc n) error = Err error
 
 -- ---- one answer
 abbrev pub at_nothing : Way → ℕ → Progress
@@ -45,40 +44,40 @@ after_moved way room done tries n =
 unfoldable pub after_failed : ℕ → ℕ → ℤ → Progress
 after_failed done tries error = cond (passing error) (cond (ltb tries most_tries) (Going done (suc tries)) Broken) Broken
 
-unfoldable pub next : Way → ℕ → Progress → Answer → Progress
-next way room (Going done tries) (Moved n) = after_moved way room done tries n
-next way room (Going done tries) (Failed error) = after_failed done tries error
+unfoldable pub next : Way → ℕ → Progress → Result ℕ ℤ → Progress
+next way room (Going done tries) (Ok n) = after_moved way room done tries n
+next way room (Going done tries) (Err error) = after_failed done tries error
 next way room (Whole n) answer = Broken
 next way room Broken answer = Broken
 
 -- ---- all answers
-unfoldable pub streamed : Way → ℕ → Progress → List Answer → Progress
+unfoldable pub streamed : Way → ℕ → Progress → List (Result ℕ ℤ) → Progress
 streamed way room progress [] = progress
 streamed way room progress (answer ∷ answers) = streamed way room (next way room progress answer) answers
 
-unfoldable pub sum_of : List Answer → ℕ
+unfoldable pub sum_of : List (Result ℕ ℤ) → ℕ
 sum_of [] = 0
-sum_of (Moved n ∷ answers) = n + sum_of answers
-sum_of (Failed error ∷ answers) = sum_of answers
+sum_of (Ok n ∷ answers) = n + sum_of answers
+sum_of (Err error ∷ answers) = sum_of answers
 
-unfoldable pub passed : List Answer → ℕ
+unfoldable pub passed : List (Result ℕ ℤ) → ℕ
 passed [] = 0
-passed (Moved n ∷ answers) = passed answers
-passed (Failed error ∷ answers) = cond (passing error) (suc (passed answers)) (passed answers)
+passed (Ok n ∷ answers) = passed answers
+passed (Err error ∷ answers) = cond (passing error) (suc (passed answers)) (passed answers)
 
-unfoldable pub Sound : List Answer → Type 0
+unfoldable pub Sound : List (Result ℕ ℤ) → Type 0
 Sound [] = Unit {0}
-Sound (Moved n ∷ answers) = Sound answers
-Sound (Failed error ∷ answers) = T (passing error) × Sound answers
+Sound (Ok n ∷ answers) = Sound answers
+Sound (Err error ∷ answers) = T (passing error) × Sound answers
 
-abbrev pub Closes : List Answer → Type 0
-Closes answers = (front : List Answer) × (answers ≡ front ++ (Moved 0 ∷ []))
+abbrev pub Closes : List (Result ℕ ℤ) → Type 0
+Closes answers = (front : List (Result ℕ ℤ)) × (answers ≡ front ++ (Ok 0 ∷ []))
 
-abbrev pub EndsWell : Way → ℕ → ℕ → List Answer → Type 0
+abbrev pub EndsWell : Way → ℕ → ℕ → List (Result ℕ ℤ) → Type 0
 EndsWell Read room n answers = (n ≡ room) ⊎ Closes answers
 EndsWell Write room n answers = n ≡ room
 
-pub record WholeOf (way : Way) (room n : ℕ) (answers : List Answer) : Type 0 where
+pub record WholeOf (way : Way) (room n : ℕ) (answers : List (Result ℕ ℤ)) : Type 0 where
   pub sound : Sound answers
   pub few : passed answers ≤ most_tries
   pub sum : n ≡ sum_of answers

@@ -13,13 +13,6 @@ pub enum Way {
     Write,
 }
 
-// What one call answered: bytes that it moved, or an error's number.
-#[derive(Clone, Copy)]
-pub enum Answer {
-    Moved(usize),
-    Failed(i32),
-}
-
 // Where a stream stands: so many bytes are done and so many calls were told to come again; all its bytes are there; or it is given up.
 #[derive(Clone, Copy)]
 pub enum Progress {
@@ -28,22 +21,18 @@ pub enum Progress {
     Broken,
 }
 
-// What a call answered that gave `got`; errno counts only where that is negative.
-pub fn answered(got: isize, errno: i32) -> Answer
+// What a call answered that gave `got`: the bytes that it moved, or its error's number. errno counts only where `got` is negative.
+pub fn answered(got: isize, errno: i32) -> Result<usize, i32>
     ensures { result ≡ answer_of got errno }
 {
-    if got < 0 {
-        Answer::Failed(errno)
-    } else {
-        Answer::Moved(got as usize)
-    }
+    usize::try_from(got).map_err(|_| errno)
 }
 
 // A read or a write that was interrupted, or that would have had to wait.
 fn passes(errno: i32) -> bool
     ensures { result ≡ passing errno }
 {
-    errno == 4 || errno == 11
+    matches!(errno, 4 | 11)
 }
 
 fn at_nothing(way: Way, done: usize) -> Progress
@@ -55,13 +44,11 @@ fn at_nothing(way: Way, done: usize) -> Progress
     }
 }
 
+#[tactic(auto, using(std::proofs::lemmas::Bool::Decides::nat_tests), unfolding(crate::specs::Streams::after_moved))]
 fn after_moved(way: Way, room: usize, done: usize, tries: usize, n: usize) -> Progress
     ensures { result ≡ after_moved way room done tries n }
 {
-    if done > room {
-        return Progress::Broken;
-    }
-    if n > room - done {
+    if done > room || n > room - done {
         return Progress::Broken;
     }
     if n == room - done {
@@ -73,28 +60,27 @@ fn after_moved(way: Way, room: usize, done: usize, tries: usize, n: usize) -> Pr
     Progress::Going(done + n, tries)
 }
 
+#[tactic(auto, unfolding(crate::specs::Streams::after_failed))]
 fn after_failed(done: usize, tries: usize, errno: i32) -> Progress
     ensures { result ≡ after_failed done tries errno }
 {
-    if !passes(errno) {
-        return Progress::Broken;
+    if passes(errno) && tries < TRIES {
+        Progress::Going(done, tries + 1)
+    } else {
+        Progress::Broken
     }
-    if tries < TRIES {
-        return Progress::Going(done, tries + 1);
-    }
-    Progress::Broken
 }
 
-// Where the stream stands after one answer more. A failed call never ends it as whole.
-pub fn next(way: Way, room: usize, progress: Progress, answer: Answer) -> Progress
+// Where the stream stands after one answer more: the bytes that a call moved, or its error's number. A failed call never ends it as whole.
+#[tactic(auto, unfolding(crate::specs::Streams::next))]
+pub fn next(way: Way, room: usize, progress: Progress, answer: Result<usize, i32>) -> Progress
     ensures { result ≡ next_of way room progress answer }
 {
-    match progress {
-        Progress::Going(done, tries) => match answer {
-            Answer::Moved(n) => after_moved(way, room, done, tries, n),
-            Answer::Failed(error) => after_failed(done, tries, error),
-        },
-        Progress::Whole(_) => Progress::Broken,
-        Progress::Broken => Progress::Broken,
+    let Progress::Going(done, tries) = progress else {
+        return Progress::Broken;
+    };
+    match answer {
+        Ok(n) => after_moved(way, room, done, tries, n),
+        Err(errno) => after_failed(done, tries, errno),
     }
 }

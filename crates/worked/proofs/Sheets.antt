@@ -10,6 +10,8 @@ use mathlib.Core.List.{List, [], ◌∷◌, ◌++◌, map}
 use Prim.Native.Nat.{ℕ, ◌<◌, ◌≤◌, ◌-◌}
 use borrow.Author.Tests.{lt-ltb, le-ltb}
 use lib.ListN.{length, replicate, drop}
+use Rattle.std.specs.Prelude.{Result, Ok, Err}
+use Rattle.words.specs.declared.Refusal.{Refusal}
 use Rattle.words.specs.declared.Refusal.TheVariants.{Findings}
 use Rattle.rows.specs.Rows.{dot, corner}
 use Rattle.grammar.specs.Reading.{due, one, times, many}
@@ -25,27 +27,27 @@ use Rattle.records.specs.Records.{graph_words, edge_row, records_of}
 use Rattle.words.specs.LiteralSets.{literals_in, set_of}
 use Rattle.abstraction.specs.Abstraction.{among, all_among, applies}
 use Rattle.tables.specs.Off.{first_off}
-use Rattle.verdict.specs.Verdicts.{Finding, Forbid, RunOff, contradicted, forbids, runs_off, findings_from}
+use Rattle.verdict.specs.Verdicts.{contradicted, forbids, runs_off, findings_from}
+use Rattle.verdict.specs.declared.Finding.{Finding}
+use Rattle.verdict.specs.declared.Finding.TheVariants.{Forbid, RunOff}
 use Rattle.verdict.specs.Verdicts.{ends as rangeEnds}
 use Rattle.survey.specs.Surveys.{survey_program}
 use Rattle.sheet.specs.Sheets.{finding_word}
 use Rattle.findings.specs.Calls.{Listing, list_all, list_survey, listing}
-use Rattle.findings.specs.declared.Listed.{Listed}
-use Rattle.findings.specs.declared.Listed.TheVariants.{All, Refused}
 use Rattle.worked.specs.Shows.{fade, fade_lemmas, fade_others, house}
 use Rattle.worked.specs.MoreLemmas.{house_before, house_behind}
 use Rattle.worked.proofs.Table.{fade_records, bare_records, cut_records}
 
-abbrev pub listed : Listed → List ℕ → List ℕ → List ℕ → Listing
+abbrev pub listed : Result ℕ Refusal → List ℕ → List ℕ → List ℕ → Listing
 listed r records gl fl = record { answer = r; graph = records ++ (replicate (graph_words - length records) 0 ++ drop graph_words gl); list = fl }
 
 abbrev pub Lists : List ℕ → List ℕ → ℕ → List ℕ → List ℕ → Type 0
 Lists ws lemmas n records words =
-    (gl fl : List ℕ) → graph_words ≤ length gl → n ≤ length fl → listing ws lemmas gl fl ≡ listed (All n) records gl (words ++ replicate (length fl - n) 0)
+    (gl fl : List ℕ) → graph_words ≤ length gl → n ≤ length fl → listing ws lemmas gl fl ≡ listed (Ok n) records gl (words ++ replicate (length fl - n) 0)
 
 abbrev pub Short : List ℕ → List ℕ → ℕ → List ℕ → Type 0
 Short ws lemmas n records =
-    (gl fl : List ℕ) → graph_words ≤ length gl → length fl < n → listing ws lemmas gl fl ≡ listed (Refused (Findings n)) records gl fl
+    (gl fl : List ℕ) → graph_words ≤ length gl → length fl < n → listing ws lemmas gl fl ≡ listed (Err (Findings n)) records gl fl
 
 -- House with no lemmas: its forbidden combination, and both ends of what each of its four actions sets, house, level, level, house
 abbrev pub bare_findings : List ℕ

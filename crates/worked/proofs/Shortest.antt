@@ -22,12 +22,15 @@ use Rattle.records.specs.Records.{distance_offset, record_place, graph_words, ed
 use Rattle.words.specs.LiteralSets.{literals_in, set_of}
 use Rattle.abstraction.specs.Abstraction.{among, all_among, applies}
 use Rattle.tables.specs.Off.{first_off}
-use Rattle.verdict.specs.Verdicts.{Finding, Forbid, path_words, steps_in, contradicted, forbids, runs_off, findings_from}
+use Rattle.verdict.specs.Verdicts.{path_words, steps_in, contradicted, forbids, runs_off, findings_from}
+use Rattle.verdict.specs.declared.Finding.{Finding}
+use Rattle.verdict.specs.declared.Finding.TheVariants.{Forbid}
 use Rattle.verdict.specs.Verdicts.{ends as rangeEnds}
 use Rattle.sheet.specs.Sheets.{finding_word}
 use Rattle.judge.specs.Calls.{judge}
 use Rattle.judge.specs.Shortest.{walk_end}
 use Rattle.judge.specs.declared.Judged.TheVariants.{MayForbid}
+use Rattle.std.specs.Prelude.{Ok}
 use Rattle.little.specs.LittleEndian.{words_of, bytes_of}
 use Rattle.show.specs.Show.{logic_length, words_in, logic_in, lemmas_in, of_bytes}
 use Rattle.lines.specs.Text.{text, spelled, decimal, line}
@@ -115,7 +118,7 @@ shortcut_lines_lem =
 
 pub two_distances : (ws : List ℕ) × (lemmas : List ℕ) × (lines_of (bytes_of (ws ++ lemmas)) ≡ text "FORBID node 3 bad 1\nPATH 2\n")
     × ((gl pl fl : List ℕ) → graph_words ≤ length gl → path_words ≤ length pl → 4 ≤ length fl → let j = judge ws lemmas gl pl in
-    (j.answer ≡ MayForbid 3 1 6 19) × (steps_in j.path ≡ 2 ∷ []) × (walk_end 4 j.graph 0 (2 ∷ []) ≡ To 3) × (walk_end 4 j.graph 0 (1 ∷ 0 ∷ []) ≡ To 3) × (walk_end 4 j.graph 0 (1 ∷ 3 ∷ []) ≡ To 4)
+    (j.answer ≡ Ok (MayForbid 3 1 6 19)) × (steps_in j.path ≡ 2 ∷ []) × (walk_end 4 j.graph 0 (2 ∷ []) ≡ To 3) × (walk_end 4 j.graph 0 (1 ∷ 0 ∷ []) ≡ To 3) × (walk_end 4 j.graph 0 (1 ∷ 3 ∷ []) ≡ To 4)
     × (map (λ k. get_or j.graph (record_place 4 k + distance_offset) 0) (3 ∷ 4 ∷ 5 ∷ []) ≡ 1 ∷ 2 ∷ 2 ∷ [])
     × (take 4 (listing ws lemmas gl fl).list ≡ map finding_word (Forbid 3 1 ∷ Forbid 4 0 ∷ Forbid 5 0 ∷ Forbid 5 1 ∷ [])))
 two_distances = (

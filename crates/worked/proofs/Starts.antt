@@ -13,6 +13,7 @@ use Rattle.programs.specs.Calls.{read}
 use Rattle.runs.specs.Runs.{Start, all_hold, lowest_off, new_value, values_from, run, Safe, RanOff}
 use Rattle.judge.specs.Calls.{judge}
 use Rattle.judge.specs.declared.Judged.TheVariants.{Safe as IsSafe}
+use Rattle.std.specs.Prelude.{Ok}
 use Rattle.judge.proofs.Promised.{judge-safe}
 use Rattle.worked.specs.Shows.{fade, house, incident, fade_program, house_program, incident_program}
 
@@ -49,8 +50,7 @@ runs_off_lem = refl
 pub incident_unsafe : Safe incident_program → ⊥
 incident_unsafe safe =
     let s = safe (pos 5 ∷ []) incident_starts (0 ∷ []) (omega arith, tt) in
-    let z : ◌≡◌ {A = ℕ} 0 1 = cc (s.never-off, runs_off_lem) in
-    omega arith
+    cc (s.never-off, runs_off_lem)
 
-pub incident-never-safe : (lemmas gl pl : List ℕ) (n e : ℕ) → (judge incident lemmas gl pl).answer ≡ IsSafe n e → ⊥
+pub incident-never-safe : (lemmas gl pl : List ℕ) (n e : ℕ) → (judge incident lemmas gl pl).answer ≡ Ok (IsSafe n e) → ⊥
 incident-never-safe lemmas gl pl n e h = incident_unsafe (rw incident-read at (judge-safe incident lemmas gl pl h))

@@ -21,7 +21,7 @@ use Rattle.grammar.specs.Programs.{Program}
 use Rattle.grammar.specs.Grammar.{program, ranges, rows, end, coefs, row, assignment, sets, action}
 use Rattle.actions.specs.NewRows.{assigned}
 use Rattle.programs.specs.Calls.{read, check}
-use Rattle.programs.specs.declared.Checked.TheVariants.{Good, Refused}
+use Rattle.std.specs.Prelude.{Ok, Err}
 use Rattle.sums.specs.Sums.{plus_times, combine}
 use Rattle.lemmas.specs.Lemmas.{Lemma}
 use Rattle.lemmas.specs.LemmaGrammar.{read_lemmas, sets_variable, lemma, list}
@@ -70,7 +70,7 @@ house_records =
 abbrev pub left : Judged → List ℕ → List ℕ → List ℕ → List ℕ → Judgement
 left r records steps gl pl =
     record {
-      answer = r;
+      answer = Ok r;
       graph = records ++ (replicate (graph_words - length records) 0 ++ drop graph_words gl);
       path = steps ++ (replicate (path_words - length steps) 0 ++ drop path_words pl);
     }
@@ -84,10 +84,10 @@ pub judged : (ws lemmas : List ℕ) (r : Judged) (records steps : List ℕ) → 
 judged ws lemmas r records steps h gl pl long roomy = rw (le-ltb (length gl) graph_words long, le-ltb (length pl) path_words roomy) (h gl pl)
 
 abbrev pub Counts : List ℕ → ℕ → ℕ → ℕ → ℕ → ℕ → Type 0
-Counts ws vars starts preds acts bad = check ws ≡ Good (record { variables = vars; start_rows = starts; predicates = preds; actions = acts; forbidden = bad })
+Counts ws vars starts preds acts bad = check ws ≡ Ok (record { variables = vars; start_rows = starts; predicates = preds; actions = acts; forbidden = bad })
 
 abbrev pub Refuses : List ℕ → ℕ → ℕ → Type 0
-Refuses ws n at = (why : Refusal) × (check ws ≡ Refused why) × (number why ≡ n) × (value why ≡ at)
+Refuses ws n at = (why : Refusal) × (check ws ≡ Err why) × (number why ≡ n) × (value why ≡ at)
 
 pub record Table : Type 0 where
   -- (a) Fade safe
@@ -96,8 +96,8 @@ pub record Table : Type 0 where
   pub b : Judges fade fade_others (MayRunOff 0 0 0 false 1 2) fade_records []
   -- (c) a lemma with all multipliers 0 is not accepted: any, and Fade's first with its multipliers so
   pub c : (ws lemmas : List ℕ) (k : ℕ) (p : Program) (ls : List Lemma) {us vs : List ℕ} {i j : ℕ} → read ws ≡ got p us i → read_lemmas p lemmas ≡ got ls vs j
-      → k < length ls → Zeros (get_or ls k no_lemma).multipliers → ask ws lemmas k ≡ NotAccepted
-  pub c-fade : ask fade (fade_first_zero ++ fade_others) 0 ≡ NotAccepted
+      → k < length ls → Zeros (get_or ls k no_lemma).multipliers → ask ws lemmas k ≡ Ok NotAccepted
+  pub c-fade : ask fade (fade_first_zero ++ fade_others) 0 ≡ Ok NotAccepted
   -- (d) House with no lemmas, forbids at node 0, empty path
   pub d : Judges house [] (MayForbid 0 0 1 4) bare_records []
   -- (e) House without lemmas for action 0 failing P0: by request 1 the three nodes and ten edges of House with full lemmas, and safe

@@ -16,6 +16,7 @@ use Rattle.lemmas.specs.Lemmas.{Lemma, rows_of, total, largest_of}
 use Rattle.lemmas.specs.LemmaGrammar.{read_lemmas}
 use Rattle.ask.specs.Calls.{no_lemma, ask}
 use Rattle.ask.specs.declared.Asked.TheVariants.{NotAccepted}
+use Rattle.std.specs.Prelude.{Ok}
 
 abbrev pub Zeros : List ℕ → Type 0
 Zeros ms = Each (λ m. m ≡ 0) ms
@@ -53,5 +54,5 @@ largest-zero p l z =
     rw (dot-zero (total p l).coef (corner (total p l).coef p.ranges) t.coefs, t.const)
 
 pub zeros-not-accepted : (ws lemmas : List ℕ) (k : ℕ) (p : Program) (ls : List Lemma) {us vs : List ℕ} {i j : ℕ}
-    → read ws ≡ got p us i → read_lemmas p lemmas ≡ got ls vs j → k < length ls → Zeros (get_or ls k no_lemma).multipliers → ask ws lemmas k ≡ NotAccepted
+    → read ws ≡ got p us i → read_lemmas p lemmas ≡ got ls vs j → k < length ls → Zeros (get_or ls k no_lemma).multipliers → ask ws lemmas k ≡ Ok NotAccepted
 zeros-not-accepted ws lemmas k p ls e f below z = rw (e, f, lt-leb (length ls) k below, largest-zero p (get_or ls k no_lemma) z)

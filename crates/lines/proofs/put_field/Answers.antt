@@ -4,16 +4,6 @@ use Rattle.lines.specs.Text.{decimal}
 use Rattle.lines.proofs.Puts.{then_put}
 use Rattle.lines.proofs.put_field.Goals as goal
 
-pub put_bytes-next-requires : goal.put_bytes-next-requires
-put_bytes-next-requires c =
-    let a = c.args in
-    omega (arith, length-append a.text.now (decimal a.n))
-
-pub put_number-requires : goal.put_number-requires
-put_number-requires c =
-    let a = c.args in
-    omega (arith, length-append a.text.now (decimal a.n), c.put_bytes-next.ensures.ends)
-
 pub returns : goal.returns
 returns c =
     let a = c.args in

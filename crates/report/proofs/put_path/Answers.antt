@@ -7,21 +7,6 @@ use Rattle.report.specs.Report.{step_text, path_line}
 use Rattle.report.proofs.Sizes.{length-path}
 use Rattle.report.proofs.put_path.Goals as goal
 
-pub put_bytes-next-requires : goal.put_bytes-next-requires
-put_bytes-next-requires c =
-    let a = c.args in
-    omega (arith, length-path (steps_in a.path.now))
-
-pub put_steps-last-requires : goal.put_steps-last-requires
-put_steps-last-requires c =
-    let a = c.args in
-    omega (arith, length-path (steps_in a.path.now), c.put_bytes-next.ensures.ends)
-
-pub put_bytes-requires : goal.put_bytes-requires
-put_bytes-requires c =
-    let a = c.args in
-    omega (arith, length-path (steps_in a.path.now), c.put_bytes-next.ensures.ends, c.put_steps-last.ensures.ends)
-
 pub returns : goal.returns
 unfolding path_line
 returns c =

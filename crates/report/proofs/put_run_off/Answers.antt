@@ -7,26 +7,6 @@ use Rattle.report.specs.Report.{run_off_line}
 use Rattle.report.proofs.Sizes.{length-run-off}
 use Rattle.report.proofs.put_run_off.Goals as goal
 
-pub put_field-at-requires : goal.put_field-at-requires
-put_field-at-requires c =
-    let a = c.args in
-    omega (arith, length-run-off a.node a.action a.variable a.high)
-
-pub put_field-next-requires : goal.put_field-next-requires
-put_field-next-requires c =
-    let a = c.args in
-    omega (arith, length-run-off a.node a.action a.variable a.high, c.put_field-at.ensures.ends)
-
-pub put_field-last-requires : goal.put_field-last-requires
-put_field-last-requires c =
-    let a = c.args in
-    omega (arith, length-run-off a.node a.action a.variable a.high, c.put_field-next.ensures.ends, c.put_field-at.ensures.ends)
-
-pub put_end-requires : goal.put_end-requires
-put_end-requires c =
-    let a = c.args in
-    omega (arith, length-run-off a.node a.action a.variable a.high, c.put_field-last.ensures.ends, c.put_field-next.ensures.ends, c.put_field-at.ensures.ends)
-
 pub returns : goal.returns
 unfolding run_off_line
 returns c =

@@ -1,30 +1,22 @@
-use mathlib.Core.Path.{sym}
-use native.Mathlib.Omega.{arith}
-use lib.Seq.{length-take-le}
-use Rattle.show.proofs.Cases.{words-short, too_long, odd-bytes, whole_words}
+-- The words' list holds the words of the bytes at its front.
+use Rattle.std.proofs.Common.{◌≡◌, ◌/◌, ◌++◌, ℕ, List, length, take, drop, sym, ◌∙◌, arith}
+use Rattle.std.proofs.lemmas.Grind.{common_steps}
+use lib.Seq.{take_at}
+use Rattle.little.proofs.Laws.{length-words}
+use Rattle.little.specs.LittleEndian.{words_of}
+use Rattle.show.specs.Show.{words_in, of_bytes}
+use Rattle.show.proofs.Safe.{show-safe}
 use Rattle.show.proofs.show.Goals as goal
 
-pub returns-then-words-lt-WORDS : goal.returns-then-words-lt-WORDS
-returns-then-words-lt-WORDS c =
-    let a = c.args in
-    let all = words-short a.bytes.now a.words.now a.graph.now a.path.now (omega arith) in record { answer = all.0; words = all.1.0; graph = all.1.1.0; path = all.1.1.1.0; safe = all.1.1.1.1 }
+front : (b wl ws : List ℕ) → ws ≡ words_of b (length b / 4) ++ drop (length b / 4) wl → take (length b / 4) ws ≡ words_in b
+front b wl ws are = rw are (take_at (words_in b) (drop (length b / 4) wl) (length b / 4) (length-words b (length b / 4)))
 
-pub returns-then-bytes-gt-BYTES : goal.returns-then-bytes-gt-BYTES
-returns-then-bytes-gt-BYTES c =
-    let a = c.args in
-    let all = too_long a.bytes.now a.words.now a.graph.now a.path.now (omega arith) (omega arith) in record { answer = all.0; words = all.1.0; graph = all.1.1.0; path = all.1.1.1.0; safe = all.1.1.1.1 }
+pub returns-clause-answer : goal.returns-clause-answer
+unfolding of_bytes
+returns-clause-answer c =
+    let f = front c.args.bytes.now c.args.words.now c.to_words.new.words c.to_words.ensures in
+    grind (arith, common_steps, rw f at c.judge_words.ensures.answer)
 
-pub returns-then-bytes-ne0 : goal.returns-then-bytes-ne0
-returns-then-bytes-ne0 c =
-    let a = c.args in
-    let all = odd-bytes a.bytes.now a.words.now a.graph.now a.path.now (omega arith) (omega arith) c.if-bytes-ne0.true in record { answer = all.0; words = all.1.0; graph = all.1.1.0; path = all.1.1.1.0; safe = all.1.1.1.1 }
-
-pub slice_bounds-answered-end-2 : goal.slice_bounds-answered-end-2
-slice_bounds-answered-end-2 c = sym (length-take-le _ c.to_words.new.words (omega arith))
-
-pub returns : goal.returns
-returns c =
-    let a = c.args in
-    let s = c.answered.ensures in
-    let all = whole_words a.bytes.now a.words.now a.graph.now a.path.now (omega arith) (omega arith) c.if-bytes-ne0.false c.to_words.new.words c.to_words.ensures
-    s.answer s.graph s.path in record { answer = all.0; words = all.1.0; graph = all.1.1.0; path = all.1.1.1.0; safe = all.1.1.1.1 }
+pub returns-clause-safe : goal.returns-clause-safe
+returns-clause-safe c a n e is at =
+    let g = c.args in show-safe g.bytes.now g.graph.now g.path.now a n e at g.words.now (sym (returns-clause-answer c) ∙ is)
