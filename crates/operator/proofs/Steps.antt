@@ -14,61 +14,50 @@ use Rattle.streams.specs.Streams.{next, after_failed}
 use Rattle.streams.specs.declared.Way.{Way}
 use Rattle.streams.specs.declared.Way.TheVariants.{Read, Write}
 use Rattle.streams.specs.declared.Progress.{Progress}
-use Rattle.streams.specs.declared.Progress.TheVariants.{Going, Whole, Broken}
-use Rattle.streams.specs.declared.Answer.{Answer}
-use Rattle.streams.specs.declared.Answer.TheVariants.{Moved, Failed}
+use Rattle.streams.specs.declared.Progress.TheVariants.{Going, Whole}
 use Rattle.streams.proofs.Whole.{after-failed, after-moved}
 use Rattle.operator.specs.Program.{told}
 
-no-broken-whole : {X : Type 0} {n : ℕ} → Whole n ≡ Broken → X
-no-broken-whole e = absurd (let z : ◌≡◌ {A = ℕ} 0 1 = cc in omega arith)
-
-no-broken-going : {X : Type 0} {d t : ℕ} → Going d t ≡ Broken → X
-no-broken-going e = absurd (let z : ◌≡◌ {A = ℕ} 0 1 = cc in omega arith)
-
-no-going-whole : {X : Type 0} {d t n : ℕ} → Going d t ≡ Whole n → X
-no-going-whole e = absurd (let z : ◌≡◌ {A = ℕ} 0 1 = cc in omega arith)
-
 module _ (way : Way) (room done tries : ℕ) where
   -- a failed call moves nothing, and ends no stream as whole
-  failed-stays : (error : ℤ) (more again : ℕ) → next way room (Going done tries) (Failed error) ≡ Going more again → more ≡ done
+  failed-stays : (error : ℤ) (more again : ℕ) → next way room (Going done tries) (Err error) ≡ Going more again → more ≡ done
   unfolding next
-  failed-stays error more again e = after-failed way room done tries error _ e (λ pass less is. cc) (λ is. no-broken-going is)
+  failed-stays error more again e = after-failed way room done tries error _ e (λ pass less is. cc) (λ is. cc)
 
-  failed-not-whole : {X : Type 0} (error : ℤ) (n : ℕ) → next way room (Going done tries) (Failed error) ≡ Whole n → X
+  failed-not-whole : {X : Type 0} (error : ℤ) (n : ℕ) → next way room (Going done tries) (Err error) ≡ Whole n → X
   unfolding next
-  failed-not-whole error n e = after-failed way room done tries error _ e (λ pass less is. no-going-whole (sym is)) (λ is. no-broken-whole is)
+  failed-not-whole error n e = after-failed way room done tries error _ e (λ pass less is. cc) (λ is. cc)
 
-  moved-on : (k more again : ℕ) → next way room (Going done tries) (Moved k) ≡ Going more again → more ≡ done + k
+  moved-on : (k more again : ℕ) → next way room (Going done tries) (Ok k) ≡ Going more again → more ≡ done + k
   unfolding next
   moved-on k more again e =
       after-moved way room done tries k _ e
-      (λ full is. no-going-whole is)
+      (λ full is. cc)
       (λ none is. not-going way is)
       (λ some less is. cc)
-      (λ is. no-broken-going is)
+      (λ is. cc)
     where
       not-going : (w : Way) → Going more again ≡ Rattle.streams.specs.Streams.at_nothing w done → more ≡ done + k
-      not-going Read is = no-going-whole is
-      not-going Write is = no-broken-going is
+      not-going Read is = cc
+      not-going Write is = cc
 
-moved-all-in : (room done tries k n : ℕ) → next Read room (Going done tries) (Moved k) ≡ Whole n → (n ≡ done + k) × (n < room → k ≡ 0)
+moved-all-in : (room done tries k n : ℕ) → next Read room (Going done tries) (Ok k) ≡ Whole n → (n ≡ done + k) × (n < room → k ≡ 0)
 unfolding next
 moved-all-in room done tries k n e =
     after-moved Read room done tries k _ e
     (λ full is. let z : n ≡ room = cc in (omega arith, λ less. absurd (omega arith)))
     (λ none is. let z : n ≡ done = cc in (omega arith, λ less. none))
-    (λ some less is. no-going-whole (sym is))
-    (λ is. no-broken-whole is)
+    (λ some less is. cc)
+    (λ is. cc)
 
-moved-all-out : (room done tries k n : ℕ) → next Write room (Going done tries) (Moved k) ≡ Whole n → done + k ≡ room
+moved-all-out : (room done tries k n : ℕ) → next Write room (Going done tries) (Ok k) ≡ Whole n → done + k ≡ room
 unfolding next
 moved-all-out room done tries k n e =
     after-moved Write room done tries k _ e
     (λ full is. full)
-    (λ none is. no-broken-whole is)
-    (λ some less is. no-going-whole (sym is))
-    (λ is. no-broken-whole is)
+    (λ none is. cc)
+    (λ some less is. cc)
+    (λ is. cc)
 
 -- ---- a reader
 module _ (start old new : Option (List ℕ)) (bytes buf : List ℕ) (room done tries : ℕ) (all : length bytes ≡ room) (within : done ≤ room) (same : length buf ≡ length bytes - done) where
@@ -144,9 +133,9 @@ module _ (start old new : Option (List ℕ)) (lines : List ℕ) (done tries : �
   write_broken (Err error) went moved = (done, Appends-kept start old new _ went moved)
 
 -- ---- what the calls of a turn ensure, as one equation
-pub by_told : (way : Way) (room done tries : ℕ) (r : Result ℕ Error) (a : Answer) (p q : Progress) → a ≡ told r → p ≡ next way room (Going done tries) a → p ≡ q
+pub by_told : (way : Way) (room done tries : ℕ) (r : Result ℕ Error) (a : Result ℕ ℤ) (p q : Progress) → a ≡ told r → p ≡ next way room (Going done tries) a → p ≡ q
     → next way room (Going done tries) (told r) ≡ q
 by_told way room done tries r a p q of is e = ap (next way room (Going done tries)) (sym of) ∙ sym is ∙ e
 
-pub by_answer : (way : Way) (room done tries : ℕ) (a : Answer) (p q : Progress) → p ≡ next way room (Going done tries) a → p ≡ q → next way room (Going done tries) a ≡ q
+pub by_answer : (way : Way) (room done tries : ℕ) (a : Result ℕ ℤ) (p q : Progress) → p ≡ next way room (Going done tries) a → p ≡ q → next way room (Going done tries) a ≡ q
 by_answer way room done tries a p q is e = sym is ∙ e

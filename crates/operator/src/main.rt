@@ -3,14 +3,14 @@
 // that. Where reading or writing fails, it says so on standard error, and no verdict is printed on a part of the input.
 #![tactic(auto)]
 
-ghost use Rattle.std.specs.Prelude.{◌≡◌, length};
-ghost use Rattle.operator.specs.Program.{told, HasRoom, AllCame, lines_after, Leads, WentOut};
+ghost use Rattle.std.specs.Prelude.{◌≡◌, ◌≤◌, IfSome, length};
+ghost use Rattle.operator.specs.Program.{told, AllCame, lines_after, Leads, WentOut};
 
 use std::io::{ErrorKind, Read, Write};
 use std::process::ExitCode;
 use std::time::{Clock, Duration};
 use std::{io, thread};
-use streams::{Answer, Progress, Way};
+use streams::{Progress, Way};
 
 // Room for 65,537 bytes. The contract gives only the length, so that no caller sees a list of as many zeros.
 fn room() -> [u8; 65537]
@@ -26,33 +26,24 @@ fn lines_room() -> [u8; 4096]
     [0; 4096]
 }
 
-// Waits for 10 ms.
-fn wait(clock: &impl Clock) {
-    thread::sleep(clock, Duration::from_millis(10));
-}
-
+// Waits for 10 ms, where that is wanted.
 fn pause(clock: &impl Clock, wanted: bool) {
     if wanted {
-        wait(clock);
+        thread::sleep(clock, Duration::from_millis(10));
     }
 }
 
 // What a call answered: the bytes that it moved, or the error's number.
-fn answer(got: io::Result<usize>) -> Answer
+fn answer(got: io::Result<usize>) -> Result<usize, i32>
     ensures { result ≡ told got }
 {
-    match got {
-        Ok(n) => Answer::Moved(n),
-        Err(error) => streams::answered(-1, error.raw_os_error().unwrap_or(0)),
-    }
+    got.map_err(|error| error.raw_os_error().unwrap_or(0))
 }
 
 // The reason alone, without the error's number that std writes behind it.
 fn reason(text: &str) -> &str {
-    match text.split_once(" (os error ") {
-        Some((before, _)) => before,
-        None => text,
-    }
+    text.split_once(" (os error ")
+        .map_or(text, |(before, _)| before)
 }
 
 // Says on standard error what could not be done and why.
@@ -70,18 +61,19 @@ fn tell_unread(rt: &(impl Eprint + Alloc), got: io::Result<usize>) {
     }
 }
 
-// Reads the input to its end, or until the bytes are full. Where that fails, it says why.
+// Reads the input to its end, or until the bytes are full, and answers how many came. Where that fails, it says why.
 fn read_whole<R: Read>(
     rt: &(impl Clock + Eprint + Alloc),
     input: &mut R,
     bytes: &mut [u8],
-) -> Progress
-    ensures room { HasRoom result (length bytes.new) }
+) -> Option<usize>
+    ensures room { IfSome result (λ n. n ≤ length bytes.new) }
     ensures came { AllCame result (R.remaining input.old) (R.remaining input.new) bytes.new }
 {
     let room = bytes.len();
     let mut done: usize = 0;
     let mut tries: usize = 0;
+    // no `for`: each call says where the stream stands
     loop {
         let got = input.read(&mut bytes[done..]);
         match streams::next(Way::Read, room, Progress::Going(done, tries), answer(got)) {
@@ -90,24 +82,23 @@ fn read_whole<R: Read>(
                 done = more;
                 tries = again;
             }
-            Progress::Whole(n) => return Progress::Whole(n),
+            Progress::Whole(n) => return Some(n),
             Progress::Broken => {
                 tell_unread(rt, got);
-                return Progress::Broken;
+                return None;
             }
         }
     }
 }
 
 // The lines for the bytes that were read; none where reading did not come to the end of the input.
-fn put_lines(end: Progress, bytes: &[u8], lines: &mut [u8]) -> usize
-    requires { HasRoom end (length bytes.now) }
+fn put_lines(end: Option<usize>, bytes: &[u8], lines: &mut [u8]) -> usize
+    requires { IfSome end (λ n. n ≤ length bytes.now) }
     ensures { Leads (lines_after end bytes.now lines.old) result lines.old lines.new }
 {
     match end {
-        Progress::Going(_, _) => 0,
-        Progress::Whole(n) => report::report(&bytes[..n], &mut *lines),
-        Progress::Broken => 0,
+        Some(n) => report::report(&bytes[..n], lines),
+        None => 0,
     }
 }
 
@@ -119,22 +110,14 @@ fn tell_unwritten(rt: &(impl Eprint + Alloc), got: io::Result<usize>, done: usiz
                 "bulanevior: the line on standard output is not whole: it takes no byte",
             );
         }
-        Err(error) => {
-            if done == 0 {
-                fail(rt, "cannot write to standard output", error);
-            } else {
-                fail(rt, "the line on standard output is not whole", error);
-            }
-        }
+        Err(error) if done == 0 => fail(rt, "cannot write to standard output", error),
+        Err(error) => fail(rt, "the line on standard output is not whole", error),
     }
 }
 
 // Why the lines could not be written.
 fn unwritten(got: io::Result<usize>) -> io::Error {
-    match got {
-        Ok(_) => io::Error::new(ErrorKind::WriteZero, "it takes no byte"),
-        Err(error) => error,
-    }
+    got.err().unwrap_or_else(|| io::Error::new(ErrorKind::WriteZero, "it takes no byte"))
 }
 
 // Writes the lines to the output, if there are any. Where that fails, it says why.
@@ -151,6 +134,7 @@ fn write_whole<W: Write>(
     }
     let mut done: usize = 0;
     let mut tries: usize = 0;
+    // no `for`, likewise
     loop {
         let got = output.write(&lines[done..]);
         match streams::next(Way::Write, room, Progress::Going(done, tries), answer(got)) {
@@ -171,14 +155,8 @@ fn write_whole<W: Write>(
 // With what the program ends: where nobody reads its output, with what a shell says of a program that SIGPIPE ended, and else with 0.
 fn status(ended: io::Result<()>) -> u8 {
     match ended {
-        Ok(()) => 0,
-        Err(error) => {
-            if matches!(error.kind(), ErrorKind::BrokenPipe) {
-                141
-            } else {
-                0
-            }
-        }
+        Err(error) if error.kind() == ErrorKind::BrokenPipe => 141,
+        _ => 0,
     }
 }
 

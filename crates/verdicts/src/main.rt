@@ -4,81 +4,43 @@
 // list. Input that breaks off inside a vector ends the run there.
 #![tactic(auto)]
 
-ghost use Rattle.std.specs.Prelude.{◌+◌, ◌*◌, ◌<◌, ◌≤◌, ◌^◌, length};
+ghost use Rattle.std.specs.Prelude.{◌*◌, ◌<◌, ◌≤◌, length};
 
 use ask::Asked;
-use findings::Listed;
 use judge::Judged;
 use std::io;
 use std::io::{Read, Write};
 use words::Refusal;
 
-fn wide(word: u32) -> usize
-    ensures { result < 2 ^ 32 }
-{
-    word as usize
-}
-
-// A number after a space.
-fn number<W: Write>(out: &mut W, n: usize) -> io::Result<()> {
-    write!(out, " {n}")
-}
-
 fn refused<W: Write>(out: &mut W, r: Refusal) -> io::Result<()> {
-    write!(out, "REFUSED")?;
-    number(out, wide(words::number_of(r)))?;
-    write!(out, " AT")?;
-    number(out, words::value_of(r))
+    write!(out, "REFUSED {} AT {}", r.number(), r.value())
 }
 
-fn asked<W: Write>(out: &mut W, a: Asked) -> io::Result<()> {
+fn asked<W: Write>(out: &mut W, a: Result<Asked, Refusal>) -> io::Result<()> {
     match a {
-        Asked::Accepted => write!(out, "ACCEPTED"),
-        Asked::NotAccepted => write!(out, "NOT ACCEPTED"),
-        Asked::Refused(r) => refused(out, r),
+        Ok(Asked::Accepted) => write!(out, "ACCEPTED"),
+        Ok(Asked::NotAccepted) => write!(out, "NOT ACCEPTED"),
+        Err(why) => refused(out, why),
     }
 }
 
-fn counts<W: Write>(out: &mut W, nodes: usize, edges: usize) -> io::Result<()> {
-    write!(out, " nodes {nodes} edges {edges}")
-}
-
-fn run_off<W: Write>(
-    out: &mut W,
-    node: usize,
-    action: usize,
-    variable: usize,
-    high: bool,
-) -> io::Result<()> {
-    let end = if high { "high" } else { "low" };
-    write!(
-        out,
-        "RUNOFF node {node} action {action} variable {variable} {end}"
-    )
-}
-
-fn judged<W: Write>(out: &mut W, j: Judged) -> io::Result<()> {
+fn judged<W: Write>(out: &mut W, j: Result<Judged, Refusal>) -> io::Result<()> {
     match j {
-        Judged::Safe(nodes, edges) => {
-            write!(out, "SAFE")?;
-            counts(out, nodes, edges)
+        Ok(Judged::Safe(nodes, edges)) => write!(out, "SAFE nodes {nodes} edges {edges}"),
+        Ok(Judged::MayForbid(node, bad, nodes, edges)) => write!(
+            out,
+            "FORBID node {node} bad {bad} nodes {nodes} edges {edges}"
+        ),
+        Ok(Judged::MayRunOff(node, action, variable, high, nodes, edges)) => {
+            let end = if high { "high" } else { "low" };
+            write!(
+                out,
+                "RUNOFF node {node} action {action} variable {variable} {end}"
+            )?;
+            write!(out, " nodes {nodes} edges {edges}")
         }
-        Judged::MayForbid(node, bad, nodes, edges) => {
-            write!(out, "FORBID node {node} bad {bad}")?;
-            counts(out, nodes, edges)
-        }
-        Judged::MayRunOff(node, action, variable, high, nodes, edges) => {
-            run_off(out, node, action, variable, high)?;
-            counts(out, nodes, edges)
-        }
-        Judged::Refused(r) => refused(out, r),
+        Err(why) => refused(out, why),
     }
-}
-
-fn after(first: u32, i: usize) -> u32
-    requires { (i < 16384) × (first < 4278190080) }
-{
-    first + i as u32
 }
 
 // Each word its place after `first`.
@@ -86,101 +48,62 @@ fn fill(list: &mut [u32], first: u32)
     requires { (length list.old ≤ 16384) × (first < 4278190080) }
 {
     for (i, place) in list.iter_mut().enumerate() {
-        *place = after(first, i);
+        *place = first + i as u32;
     }
-}
-
-fn long(word: u32) -> u64
-    ensures { result < 2 ^ 32 }
-{
-    word as u64
 }
 
 // The words of a list in one number below a prime near 2^32, which hangs on each of them and on their order.
 fn digest(list: &[u32]) -> u64 {
-    let mut h: u64 = 0;
-    for word in list {
-        h = (h % 4294967291 * 1000003 + long(*word) + 1) % 4294967291;
-    }
-    h
+    list.iter().fold(0, |h: u64, word| {
+        (h % 4294967291 * 1000003 + u64::from(*word) + 1) % 4294967291
+    })
 }
 
-fn listed<W: Write>(out: &mut W, l: Listed) -> io::Result<()> {
+fn listed<W: Write>(out: &mut W, l: Result<usize, Refusal>) -> io::Result<()> {
     match l {
-        Listed::All(n) => {
-            write!(out, "FINDINGS")?;
-            number(out, n)
-        }
-        Listed::Refused(r) => refused(out, r),
+        Ok(n) => write!(out, "FINDINGS {n}"),
+        Err(why) => refused(out, why),
     }
 }
 
-// Judge, or Findings with what is else the path list.
-fn answer<W: Write>(
+// What is said of the two lent lists, and the lists at exit.
+fn with_lists<W: Write, F: FnOnce(&mut W, &mut [u32], &mut [u32]) -> io::Result<()>>(
     out: &mut W,
-    call: u32,
-    program: &[u32],
-    lemmas: &[u32],
     graph: &mut [u32],
-    path: &mut [u32],
-) -> io::Result<()> {
-    if call == 4 {
-        judged(out, judge::judge(program, lemmas, &mut *graph, &mut *path))
-    } else {
-        listed(
-            out,
-            findings::findings(program, lemmas, &mut *graph, &mut *path),
-        )
-    }
-}
-
-// The answer, and the lent lists at exit.
-fn with_lists<W: Write>(
-    out: &mut W,
-    call: u32,
-    program: &[u32],
-    lemmas: &[u32],
-    graph: &mut [u32],
-    path: &mut [u32],
+    list: &mut [u32],
+    name: &str,
+    say: F,
 ) -> io::Result<()>
-    requires { (length graph.old ≤ 16384) × (length path.old ≤ 16384) }
+    requires lengths { (length graph.old ≤ 16384) × (length list.old ≤ 16384) }
+    requires callable { (out : _) (graph : _) (list : _) → F.pre say out graph list }
 {
-    fill(&mut *graph, 0xA500_0000);
-    fill(&mut *path, 0x5A00_0000);
-    answer(out, call, program, lemmas, &mut *graph, &mut *path)?;
+    fill(graph, 0xA500_0000);
+    fill(list, 0x5A00_0000);
+    say(out, graph, list)?;
     let of_graph = digest(&graph[..]);
-    let of_path = digest(&path[..]);
-    let name = if call == 4 { "PATH" } else { "LIST" };
-    write!(out, " GRAPH {of_graph} {name} {of_path}")
+    let of_list = digest(&list[..]);
+    write!(out, " GRAPH {of_graph} {name} {of_list}")
 }
 
-// The answer, with lent lists of these lengths.
-fn answer_with<W: Write>(
+// The same, with lent lists of these lengths.
+fn with_lengths<W: Write, F: FnOnce(&mut W, &mut [u32], &mut [u32]) -> io::Result<()>>(
     out: &mut W,
-    call: u32,
-    program: &[u32],
-    lemmas: &[u32],
     graph_words: usize,
-    path_words: usize,
-) -> io::Result<()> {
-    if graph_words <= 16384 {
-        if path_words <= 16384 {
-            let mut graph = little::space();
-            let mut path = little::space();
-            with_lists(
-                out,
-                call,
-                program,
-                lemmas,
-                &mut graph[..graph_words],
-                &mut path[..path_words],
-            )?;
-        }
+    list_words: usize,
+    name: &str,
+    say: F,
+) -> io::Result<()>
+    requires { (out : _) (graph : _) (list : _) → F.pre say out graph list }
+{
+    let mut graph = little::space();
+    let mut list = little::space();
+    match (graph.get_mut(..graph_words), list.get_mut(..list_words)) {
+        (Some(graph), Some(list)) => with_lists(out, graph, list, name, say),
+        _ => Ok(()),
     }
-    Ok(())
 }
 
-// The line of a vector, by the number of its call.
+// The line of a vector, by the number of its call. Findings has its list where Judge has the path.
 fn line<W: Write>(
     out: &mut W,
     call: u32,
@@ -192,34 +115,36 @@ fn line<W: Write>(
 ) -> io::Result<()> {
     match call {
         3 => asked(out, ask::ask(program, lemmas, k))?,
-        4 => answer_with(out, 4, program, lemmas, graph_words, path_words)?,
-        5 => answer_with(out, 5, program, lemmas, graph_words, path_words)?,
+        4 => with_lengths(out, graph_words, path_words, "PATH", |out, graph, path| {
+            judged(out, judge::judge(program, lemmas, graph, path))
+        })?,
+        5 => with_lengths(out, graph_words, path_words, "LIST", |out, graph, list| {
+            listed(out, findings::findings(program, lemmas, graph, list))
+        })?,
         _ => write!(out, "NO SUCH CALL")?,
     }
     writeln!(out)
 }
 
 // A vector without its count of words.
-fn vector<W: Write>(out: &mut W, words: &[u32]) -> io::Result<()>
-    requires { length words.now ≤ 16384 }
-{
-    if words.len() < 6 {
+fn vector<W: Write>(out: &mut W, words: &[u32]) -> io::Result<()> {
+    let Some((head, rest)) = words.split_at_checked(6) else {
         return Ok(());
-    }
-    let n = wide(words[2]);
-    let m = wide(words[3]);
-    let end = 6 + n;
-    if words.len() != end + m {
+    };
+    let Some((program, lemmas)) = rest.split_at_checked(head[2] as usize) else {
+        return Ok(());
+    };
+    if lemmas.len() != head[3] as usize {
         return Ok(());
     }
     line(
         out,
-        words[0],
-        wide(words[1]),
-        &words[6..end],
-        &words[end..],
-        wide(words[4]),
-        wide(words[5]),
+        head[0],
+        head[1] as usize,
+        program,
+        lemmas,
+        head[4] as usize,
+        head[5] as usize,
     )
 }
 
@@ -232,31 +157,11 @@ fn on_bytes<W: Write>(out: &mut W, b: &[u8], n: usize) -> io::Result<()>
     vector(out, &space[..n])
 }
 
-// Reads until b is full, or until there is nothing more or a read fails. How many bytes came?
-fn read_full<R: Read>(input: &mut R, b: &mut [u8]) -> usize
-    ensures { result ≤ length b.new }
-{
-    let mut done: usize = 0;
-    while done < b.len() {
-        let n = input.read(&mut b[done..]).unwrap_or(0);
-        if n == 0 {
-            break;
-        }
-        done += n;
-    }
-    done
-}
-
-// The count of words that comes next; 0 where the input ends.
-fn next_count<R: Read>(input: &mut R) -> usize {
+// The count of words that comes next, if it does.
+fn next_count<R: Read>(input: &mut R) -> Option<usize> {
     let mut b = [0u8; 4];
-    let got = read_full(input, &mut b);
-    if got < 4 {
-        return 0;
-    }
-    let mut w = [0u32; 1];
-    little::to_words(&b[..], &mut w[..], 1);
-    wide(w[0])
+    input.read_exact(&mut b).ok()?;
+    Some(u32::from_le_bytes(b) as usize)
 }
 
 // The vector of n words whose bytes come next, in room for just these. Was it there?
@@ -268,23 +173,18 @@ fn read_vector<R: Read, W: Write>(
 ) -> io::Result<bool>
     requires { (n * 4 ≤ length b.old) × (n ≤ 16384) }
 {
-    let got = read_full(input, &mut *b);
-    if got < b.len() {
+    if input.read_exact(b).is_err() {
         return Ok(false);
     }
-    on_bytes(out, &b[..], n)?;
+    on_bytes(out, b, n)?;
     Ok(true)
 }
 
 // The next vector. Was there one?
 fn next<R: Read, W: Write>(input: &mut R, out: &mut W) -> io::Result<bool> {
-    let n = next_count(input);
-    if n == 0 {
+    let Some(n @ 1..=16384) = next_count(input) else {
         return Ok(false);
-    }
-    if n > 16384 {
-        return Ok(false);
-    }
+    };
     let mut room = [0u8; 65536];
     read_vector(input, out, &mut room[..n * 4], n)
 }
