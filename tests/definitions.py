@@ -385,7 +385,8 @@ class Crates:
         """What the `ensures` of functions name; with no list, of every exported one. A `requires` there is a fault."""
         path = ROOT / "crates" / crate / "src/lib.rt"
         text = path.read_text()
-        used, parts, found, left = {}, {}, set(), set(functions or ())
+        # Clauses have the variants of `Option` and `Result` without an import.
+        used, parts, found, left = dict.fromkeys(("Ok", "Err", "Some", "None")), {}, set(), set(functions or ())
         for line in text.splitlines():
             if line.startswith("ghost use"):
                 self.use(used, parts, line)
@@ -407,7 +408,7 @@ class Crates:
                 inner.add(clause)
                 found |= {r for r in (self.resolve(used, {}, parts, n, f"{crate}::{name}") for n in inner.found) if r is not None}
             uses = types_used(text)
-            for t in set(re.findall(r"\b[A-Z]\w*", clauses[0])) - {"C", "Self"}:
+            for t in set(re.findall(r"\b[A-Z]\w*", clauses[0])) - {"C", "Self", "Option", "Result"}:
                 found.add(("declared", uses.get(t, crate), t))
         if left:
             raise Unknown(f"{crate} has no public {', '.join(sorted(left))}")

@@ -97,7 +97,7 @@ def feeding(body):
     raised = {"Op2": [{"Add": "Unsigned"}, copy(index), number(1)]}
     if set_to(body, index) != [{"Opd": number(0)}, raised]:
         return ["the index in reader::read_row's list does not begin with 0 and rise by one"]
-    seen = [place["local"] for place, value in named(body, "Assign") if value == {"Aggregate": [number(0, 8), copy(word)]}]
+    seen = [place["local"] for place, value in named(body, "Assign") if value == {"Aggregate": [number(1, 8), copy(word)]}]
     fed = [call for call in named(body, "Call") if called(call) == "feed::row_step" and seen and call[1][-1] == copy(seen[0])]
     if len(seen) != 1 or len(fed) != 1 or len(read_from(body, word)) != 1 or len(read_from(body, seen[0])) != 1:
         return ["a word of reader::read_row's list goes elsewhere than to feed::row_step"]
