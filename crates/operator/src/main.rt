@@ -37,7 +37,7 @@ fn pause(clock: &impl Clock, wanted: bool) {
 fn answer(got: io::Result<usize>) -> Result<usize, i32>
     ensures { result ≡ told got }
 {
-    got.map_err(|error| error.raw_os_error().unwrap_or(0))
+    got.or_else(|error| streams::answered(-1, error.raw_os_error().unwrap_or(0)))
 }
 
 // The reason alone, without the error's number that std writes behind it.
