@@ -95,12 +95,18 @@ fn with_lengths<W: Write, F: FnOnce(&mut W, &mut [u32], &mut [u32]) -> io::Resul
 ) -> io::Result<()>
     requires { (out : _) (graph : _) (list : _) → F.pre say out graph list }
 {
+    if graph_words > 16384 || list_words > 16384 {
+        return Ok(());
+    }
     let mut graph = little::space();
     let mut list = little::space();
-    match (graph.get_mut(..graph_words), list.get_mut(..list_words)) {
-        (Some(graph), Some(list)) => with_lists(out, graph, list, name, say),
-        _ => Ok(()),
-    }
+    with_lists(
+        out,
+        &mut graph[..graph_words],
+        &mut list[..list_words],
+        name,
+        say,
+    )
 }
 
 // The line of a vector, by the number of its call. Findings has its list where Judge has the path.
