@@ -55,7 +55,7 @@ impl Sum {
     }
 
     // The premises more: the set's literals, by rising predicate.
-    fn add_premises(self, preds: &[Row], set: u32, mults: &[u32]) -> Sum
+    pub fn add_premises(self, preds: &[Row], set: u32, mults: &[u32]) -> Sum
         requires room { (length preds.now ≤ 14) × (self.used + length (premise_rows 0 preds.now set) ≤ length mults.now) }
         requires fine { Fine 0 self.row }
         requires by_index { (i : ℕ) → Read (get_or preds.now i no_row) }
@@ -71,7 +71,7 @@ impl Sum {
     }
 
     // The rows more.
-    fn add_rows(self, rows: &[Row], mults: &[u32]) -> Sum
+    pub fn add_rows(self, rows: &[Row], mults: &[u32]) -> Sum
         requires room { (length rows.now ≤ 8) × (self.used + length rows.now ≤ length mults.now) }
         requires fine { Fine 28 self.row }
         requires by_index { (i : ℕ) → Read (get_or rows.now i no_row) }

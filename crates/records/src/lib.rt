@@ -14,7 +14,7 @@ use words::Kind;
 pub const HEADER: usize = 3;
 
 // Where in a record the origin stands.
-const ORIGIN_OFFSET: usize = 1;
+pub const ORIGIN_OFFSET: usize = 1;
 
 // Where in a record the distance stands.
 const DISTANCE_OFFSET: usize = 2;
