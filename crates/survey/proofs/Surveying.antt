@@ -5,10 +5,10 @@ use Prim.Native.Nat.{ℕ, ◌≤◌, ◌<◌}
 use native.Mathlib.Omega.{arith}
 use lib.ListN.{length, get_or, take, replicate}
 use lib.Seq.{length-sets}
-use borrow.Author.Tests.{le-ltb}
+use borrow.Author.Tests.{lt-ltb, le-ltb}
 use Rattle.std.proofs.lemmas.List.{get_or-take, length-take-le}
 use Rattle.std.specs.Prelude.{Some, None, Ok}
-use Rattle.words.specs.declared.Refusal.TheVariants.{Nodes}
+use Rattle.words.specs.declared.Refusal.TheVariants.{Sum, Nodes}
 use Rattle.grammar.specs.Reading.{got}
 use Rattle.grammar.specs.Programs.{Program}
 use Rattle.grammar.specs.WellFormed.{WellFormed, Few}
@@ -94,11 +94,15 @@ module _ (ws lemmas : List ℕ) where
             );
       }
 
+      list-is : read_lemmas p lemmas ≡ got ls (listed 0).rest (listed 0).index
+      list-is = (listed 0).is ∙ ap (λ (m : List Lemma). got m (listed 0).rest (listed 0).index) (sym same-list)
+
+      pub sum-off : (gl : List ℕ) → first_off p ls < length ls → survey_program (read ws) lemmas gl ≡ stops (Sum (first_off p ls)) gl
+      sum-off gl off = rw (k.is, list-is, lt-ltb (first_off p ls) (length ls) off) refl
+
       module _ (gl : List ℕ) {m : ℕ} {es : List Entry} (filled : Filled p ls es m) {masks : List ℕ} (kept : masks ≡ masks_of p) where
         weighed : survey_program (read ws) lemmas gl ≡ survey_graph p ls (graph p ls) gl
-        weighed =
-            let list-is : read_lemmas p lemmas ≡ got ls (listed 0).rest (listed 0).index = (listed 0).is ∙ ap (λ (m : List Lemma). got m (listed 0).rest (listed 0).index) (sym same-list) in
-            rw (k.is, list-is, le-ltb (first_off p ls) (length ls) (omega (arith, filled.none-off))) refl
+        weighed = rw (k.is, list-is, le-ltb (first_off p ls) (length ls) (omega (arith, filled.none-off))) refl
 
         graph_is : graph_of (take m es) masks image.actions ≡ graph p ls
         graph_is = rw (filled.same, kept, actions_are) (same_graph p ok ls good-are.each)

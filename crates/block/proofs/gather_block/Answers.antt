@@ -14,8 +14,8 @@ loop-entry-preserved c nodes k =
     let a = c.args in
     elim c.if-entry-lt1024.branch [
       | then-entry-lt1024 w ↦
-          rw w.table-is (block-hit a.kept.now nodes a.entries.now l.entry-index (omega arith) (l.invariant nodes k) w.met.result w.if-entry-lt1024.true (λ x h. w.met.ensures nodes x k h))
-      | else-entry-lt1024 w ↦ rw w.table-is (block-miss a.kept.now nodes a.entries.now l.entry-index (omega arith) (l.invariant nodes k) w.if-entry-lt1024.false)
+          rw w.table-is (block-hit a.kept.now nodes a.entries.now l.entry-index (omega arith) (l.invariant nodes k) w.met.result (omega arith) (λ x h. w.met.ensures nodes x k h))
+      | else-entry-lt1024 w ↦ rw w.table-is (block-miss a.kept.now nodes a.entries.now l.entry-index (omega arith) (l.invariant nodes k) (omega arith))
     ]
 
 pub returns : goal.returns

@@ -1,5 +1,6 @@
 use mathlib.Core.Path.{refl, sym, ◌∙◌}
 use mathlib.Core.Bool.{Bool}
+use borrow.Author.Rules.{rules}
 use Prim.Native.Nat.{ℕ, ◌+◌}
 use lib.ListN.{get_or}
 use Rattle.rows.specs.Bounds.{no_row}
@@ -19,6 +20,6 @@ loop-j-preserved c =
     let clear : ℕ → Bool = λ j. clear_below a.set (get_or a.predicates.now j no_row).coef 8 in
     let is = c.is_clear.ensures in
     elim c.if-is_clear.branch [
-      | then-is_clear w ↦ rw w.mask-is (pair-more (λ j. j) (λ j. 14 + j) clear c.loop-j.j c.loop-j.mask c.loop-j.invariant (sym is ∙ w.if-is_clear.true) w.with_both-mask.result w.with_both-mask.ensures)
+      | then-is_clear w ↦ rw w.mask-is (pair-more (λ j. j) (λ j. 14 + j) clear c.loop-j.j c.loop-j.mask c.loop-j.invariant (sym is ∙ w.if-is_clear.true) _ (search rules))
       | else-is_clear w ↦ rw w.mask-is (pair_same (λ j. j) (λ j. 14 + j) clear c.loop-j.j c.loop-j.mask c.loop-j.invariant (sym is ∙ w.if-is_clear.false))
     ]

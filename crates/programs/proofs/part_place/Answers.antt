@@ -29,7 +29,7 @@ pub unwrap-end-requires : goal.unwrap-end-requires
 unwrap-end-requires c = rw c.read_action.ensures (found_at (goal.at.unwrap-end-requires c).Else-image-k).there
 
 pub overflow_sub-result : goal.overflow_sub-result
-overflow_sub-result c = ((found_at (goal.at.overflow_sub-result c).Else-image-k).ends (sym c.unwrap-end.ensures ∙ c.read_action.ensures)).0
+overflow_sub-result c = omega (arith, ((found_at (goal.at.overflow_sub-result c).Else-image-k).ends (sym c.unwrap-end.ensures ∙ c.read_action.ensures)).0)
 
 pub returns : goal.returns
 returns c =

@@ -4,7 +4,7 @@ use mathlib.Core.List.{map}
 use native.Mathlib.Omega.{arith}
 use borrow.Author.Rules.{rules}
 use lib.ListN.{length, get_or}
-use lib.IntN.{ℤ, pos, negsuc, neg_ℤ, ◌-ℤ◌, +ℤ_idl}
+use lib.IntN.{ℤ, pos, negsuc, neg_ℤ, ◌+ℤ◌, ◌-ℤ◌, +ℤ_idl}
 use mir.Syntax.{w64}
 use mir.Val.{SFits, to_z, of_z}
 use mir.Facts.{to_z-of_z}
@@ -13,14 +13,12 @@ use Rattle.rows.specs.Bounds.{max_coef, max_const}
 use Rattle.rows.proofs.Arrays.{callable_at_items, mapped}
 use Rattle.rows.proofs.negate.Goals as goal
 
--- z fits where it is small, and so do 0 - z and that less 1
-less-fits : {z : ℤ} → Within max_const z → SFits w64 z × SFits w64 (pos 0 -ℤ z) × SFits w64 (pos 0 -ℤ z -ℤ pos 1)
-less-fits h =
-    let k = sum (literal {B = 0} {z = pos 0} tt tt) (opposite h) in (
-      within-fits w64 (omega arith) h,
-      within-fits w64 (omega arith) k,
-      within-fits w64 (omega arith) (sum k (literal {B = 1} {z = negsuc 0} tt tt)),
-    )
+-- z and 0 - z fit where z is small, and so does 0 - z + m for m from -1 to 1
+less-fits : {z : ℤ} → Within max_const z → SFits w64 z × SFits w64 (pos 0 -ℤ z)
+less-fits h = (within-fits w64 (omega arith) h, within-fits w64 (omega arith) (sum (literal {B = 0} {z = pos 0} tt tt) (opposite h)))
+
+more-fits : {z : ℤ} (m : ℤ) → Within 1 m → Within max_const z → SFits w64 (pos 0 -ℤ z +ℤ m)
+more-fits m b h = within-fits w64 (omega arith) (sum (sum (literal {B = 0} {z = pos 0} tt tt) (opposite h)) b)
 
 small : {z : ℤ} → Within max_coef z → Within max_const z
 small h = within_weaken {A = max_coef} (omega arith) h
@@ -38,7 +36,7 @@ map-requires c = (
 )
 
 pub overflow_sub-result-2 : goal.overflow_sub-result-2
-overflow_sub-result-2 c = let f = less-fits c.requires.const in rw (to_z-of_z f.0, to_z-of_z f.1) f.2
+overflow_sub-result-2 c = let f = less-fits c.requires.const in rw (to_z-of_z f.0, to_z-of_z f.1) (more-fits _ (literal tt tt) c.requires.const)
 
 pub returns : goal.returns
 returns c =
@@ -50,4 +48,5 @@ returns c =
     let e : r ≡ to_z w64 (of_z w64 (pos 0 -ℤ to_z w64 (of_z w64 (get_or xs k (pos 0))))) = search rules in
     let g = less-fits (small (c.requires.coefs k)) in
     (refl, e ∙ rw (to_z-of_z g.0, to_z-of_z g.1) (+ℤ_idl (neg_ℤ (get_or xs k (pos 0)))))) c.map.ensures.items in
-    rw (same, to_z-of_z f.0, to_z-of_z f.1, to_z-of_z f.2, +ℤ_idl (neg_ℤ c.args.row.constant)) refl
+    let g = more-fits (negsuc 0) (literal tt tt) c.requires.const in
+    rw (same, to_z-of_z f.0, to_z-of_z f.1, to_z-of_z g, +ℤ_idl (neg_ℤ c.args.row.constant)) refl

@@ -1,15 +1,28 @@
-use Rattle.std.proofs.Common.{◌≡◌, ◌∙◌, sym, arith, Some, None}
+use Rattle.std.proofs.Common.{◌≡◌, ◌<◌, ◌∙◌, length, sym, arith, Some, None}
 use Rattle.std.proofs.lemmas.List.{length-take-le}
 use Rattle.std.proofs.lemmas.Result.{err_from_is_err_and}
-use Rattle.words.specs.declared.Refusal.TheVariants.{Nodes}
+use Rattle.words.specs.declared.Refusal.TheVariants.{Sum, Nodes}
 use Rattle.lemmas.specs.Sources.{the_program}
 use Rattle.ask.proofs.Asking.{Program-read, program-read}
-use Rattle.survey.proofs.Surveying.{listed-few, begun, too_many, complete, masks-long, actions-few}
+use Rattle.tables.specs.Tabled.{the_lemmas}
+use Rattle.tables.specs.Off.{first_off}
+use Rattle.survey.proofs.Surveying.{listed-few, begun, sum-off, too_many, complete, masks-long, actions-few}
 use Rattle.survey.proofs.survey.Goals as goal
 use Rattle.survey.proofs.survey.Goals.{In_ok-image}
 
 known : (c : In_ok-image) → Program-read c.args.words.now c.in_ok-image.image
 known c = program-read c.args.words.now c.in_ok-image.ensures
+
+-- found alone; written out, and first, so that an edit is refused here
+pub returns-in_err-count : goal.returns-in_err-count
+returns-in_err-count c =
+    let k = known (goal.at.returns-in_err-count c).In_ok-image in
+    let ls = the_lemmas (the_program c.args.words.now) c.args.lemmas.now in
+    let off = first_off (the_program c.args.words.now) ls in
+    let why : c.in_err-count.field-0.0 ≡ Sum off = search c.in_err-count.ensures in
+    let low : off < length ls = search c.in_err-count.ensures in
+    let p = err_from_is_err_and c.from_residual-in_err-count.result c.from_residual-in_err-count.ensures.1 in
+    rw (p.1, p.2, why) (sum-off c.args.words.now c.args.lemmas.now k c.args.scratch.now _ _ c.in_ok-listed.ensures c.args.graph.now low)
 
 pub invariant_of-loaded : goal.invariant_of-loaded
 invariant_of-loaded c = record { held = (known (goal.at.invariant_of-loaded c).In_ok-image).held }

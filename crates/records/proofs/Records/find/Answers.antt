@@ -1,9 +1,12 @@
 -- Every node from `left` on, but for the one that is tried, has another word. The measure is what is left.
-use Prim.Native.Nat.{◌≤◌, ◌<◌, ◌+◌}
+use Prim.Native.Nat.{ℕ, ◌≤◌, ◌<◌, ◌+◌}
+use mathlib.Core.List.{List}
 use native.Mathlib.Omega.{arith}
-use mathlib.Core.Path.{◌≡◌}
+use mathlib.Core.Path.{◌≡◌, refl}
+use Rattle.std.specs.Prelude.{Option, Some}
 use lib.ListN.{get_or}
 use Rattle.records.specs.Records.{graph_words, stride, record_place}
+use Rattle.records.specs.Steps.{column, Sought}
 use Rattle.records.proofs.Places.{rooms, tried, none_found, found}
 use Rattle.records.proofs.Records.find.Goals as goal
 use Rattle.records.proofs.Records.find.Goals.{At-loop-i, then-hint-n, else-hint-n}
@@ -32,10 +35,14 @@ loop-i-preserved c =
     let a = c.args in
     (omega arith, omega arith, λ k ge lt ne. tried (λ k. get_or a.self.list.now (record_place a.self.actions k) 0 ≡ a.w) a.n c.loop-i.i c.loop-i.left c.loop-i.invariant.2 c.if-self-i.false k (omega arith) lt)
 
+-- a node that has the word is the answer
+is_found : (l : List ℕ) (a n w i : ℕ) (r : Option ℕ) → r ≡ Some i → i < n → get_or l (record_place a i) 0 ≡ w → Sought (column l a 0 n) w n r
+is_found l a n w i r e lt at = rw e (lt, found l a n w i lt at)
+
 pub returns-then-self-i : goal.returns-then-self-i
 returns-then-self-i c =
     let a = c.args in
-    (omega arith, found a.self.list.now a.self.actions a.n a.w c.loop-i.i (omega arith) c.if-self-i.true)
+    is_found a.self.list.now a.self.actions a.n a.w c.loop-i.i _ refl (omega arith) c.if-self-i.true
 
 pub returns-then-left-eq0 : goal.returns-then-left-eq0
 returns-then-left-eq0 c =
